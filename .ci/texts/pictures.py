@@ -79,6 +79,41 @@ class Pictures(Runs):
         ]:
             self.assertIn(told, self.printed([*PICTURE, *words], script=script))
 
+    def test_a_title_stands_above(self):
+        """In place of the usual one, spelled out; signs that no XML may have are left out."""
+        picture = self.printed([*PICTURE, "--title", 'A <lost> "order" & more\x01\ufffe'], script=SCRIPT)
+        self.assertIn(">A &lt;lost&gt; &quot;order&quot; &amp; more: steps 1 to 5 of 5</text>", picture)
+        self.assertNotIn("A run of the bank", picture)
+
+    def test_some_actors_are_drawn(self):
+        """Those alone that are named, or all but those; an envelope where both of its actors are. Every step keeps its place."""
+        for words, names, sent in [
+            ([], ["ALFA", "s0", "s1", "s2"], ["1", "2", "3", "4", "5"]),
+            (["--only", "s0,ALFA"], ["ALFA", "s0"], ["1"]),
+            (["--only", "s0", "--only", "ALFA"], ["ALFA", "s0"], ["1"]),
+            (["--hide", "s1"], ["ALFA", "s0", "s2"], ["1", "3", "5"]),
+            (["--only=ALFA,s0,s1,JPY", "--hide=s0"], ["ALFA", "s1"], ["2"]),
+            (["--hide", "ALFA,s0,s1,s2,OP,BETA,EUR"], [], []),
+        ]:
+            picture = self.printed([*PICTURE, *words], script=SCRIPT)
+            self.assertEqual(re.findall(r'class="actor"[^>]*>(.*)</text>', picture), names)
+            self.assertEqual(sorted(re.findall(r"<g><title>(\d+) ", picture)), sent)
+            self.assertEqual(len(re.findall(r"<title>step \d", picture)), 5)
+
+    def test_actors_that_are_not_there(self):
+        """They are told with status 2, once the setup is read and before the script is; first those to be drawn."""
+        for words, told in [
+            (["--only", "GAMMA"], "name 1 of `--only`"),
+            (["--only", "ALFA,s3"], "name 2 of `--only`"),
+            (["--hide", "USD,alfa"], "name 2 of `--hide`"),
+            (["--hide", "0"], "name 1 of `--hide`"),
+            (["--hide", ""], "name 1 of `--hide`"),
+            (["--only", "s0,,s1"], "name 2 of `--only`"),
+            (["--hide", "CHF", "--only", "s0,s1,CHF"], "name 3 of `--only`"),
+        ]:
+            self.ends([*PICTURE, *words], (2, "", f"error: {told} is no actor of the setup\n"), SETUP, "bad")
+        self.tells([*PICTURE, "--only", "GAMMA"], "fault setup K1\n", FOUR_SITES, "bad")
+
     def test_a_script_that_tries_nothing(self):
         picture = self.printed(PICTURE, script="print\nskip 3\n")
         self.assertTrue(picture.startswith("<svg ") and picture.endswith("</svg>\n"))
@@ -104,6 +139,12 @@ class Pictures(Runs):
             ["--svg", "--from", "1", "--from", "2"],
             ["--svg", "--svg"],
             ["--svg", "7"],
+            ["--title", "T"],
+            ["--only", "s0"],
+            ["--hide", "s0"],
+            ["--svg", "--title"],
+            ["--svg", "--only"],
+            ["--svg", "--title", "T", "--title", "U"],
         ]:
             self.has_no_form([*TRACE, *words], "error: ", FOUR_SITES, "bad")
 

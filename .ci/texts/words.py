@@ -127,12 +127,12 @@ class Words(Runs):
         """They are printed, with status 2."""
         for words, text in [
             (["--version"], "pvpsim 0.1.0\n"),
-            (["--help"], "Tells whether a setup meets the rules: prints `setup ok`, or the first rule that is broken"),
+            (["--help"], "Checks whether a setup meets the rules: prints `setup ok`, or the first rule that is broken"),
             (["--help"], "docs/formats.md"),
             (["check", "--help"], "A setup: a JSON file with the sites, the currencies and the members of the bank"),
             (["book", "--help"], "A script: a text file with one statement a line"),
             (["play", "--help"], "--fail <SITE:AT:KEEP>"),
-            (["play", "--help"], "Lets a save of a site's boot cell fail; may stand once for each site."),
+            (["play", "--help"], "Makes a save of a site's boot cell fail; may be given once for each site."),
             (["help"], "`pvpsim help codes`"),
             (["help", "check"], "A setup: a JSON file"),
         ]:

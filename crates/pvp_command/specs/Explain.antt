@@ -72,6 +72,8 @@ Explains known sources (told.Setup fault) line =
 Explains known sources (told.Line number code) line =
     ExplainsLine known sources (record { line = number; code = code }) sources.script line
 Explains known sources (told.NoSuchSite site) line = line ≡ None
+Explains known sources (told.NotToShow place) line = line ≡ None
+Explains known sources (told.NotToHide place) line = line ≡ None
 Explains known sources (told.File source why) line =
     line ≡ option_map (λ name. file_line source name why) (name_of sources source)
 Explains known sources told.Output line = line ≡ None
@@ -108,6 +110,8 @@ abbrev pub Hinders : (List ℕ → Option (List ℕ)) → (List ℕ → FileFaul
 Hinders known fails sources (told.Setup fault) why = HindersFile OfSetup (fails sources.setup) why
 Hinders known fails sources (told.Line line code) why = HindersScript known fails sources.setup sources.script why
 Hinders known fails sources (told.NoSuchSite site) why = ⊥
+Hinders known fails sources (told.NotToShow place) why = ⊥
+Hinders known fails sources (told.NotToHide place) why = ⊥
 Hinders known fails sources (told.File source unread) why = why ≡ told.NoMemory
 Hinders known fails sources told.Output why = ⊥
 Hinders known fails sources told.Net why = why ≡ told.NoMemory

@@ -5,7 +5,7 @@ use Rattle.pvp_text.specs.declared.book.RunFault.TheVariants as run
 use Rattle.pvp_text.specs.declared.setup.TextFault.{TextFault}
 use Rattle.pvp_text.specs.declared.setup.TextFault.TheVariants as text
 use Rattle.pvp_command.specs.declared.fault.Fault.{Fault}
-use Rattle.pvp_command.specs.declared.fault.Fault.TheVariants.{Setup, Line, NoSuchSite, File, Output, Net, Seats, Journal, Evidence, Missing, Shelf, Unfit, NoMemory}
+use Rattle.pvp_command.specs.declared.fault.Fault.TheVariants.{Setup, Line, NoSuchSite, NotToShow, NotToHide, File, Output, Net, Seats, Journal, Evidence, Missing, Shelf, Unfit, NoMemory}
 use Rattle.pvp_journal.specs.declared.fault.JournalFault.{JournalFault}
 use Rattle.pvp_journal.specs.declared.fault.JournalWhy.{JournalWhy}
 use Rattle.pvp_journal.specs.declared.fault.JournalWhy.TheVariants as bytes
@@ -58,11 +58,13 @@ put_told (put.Shelf fault) = Shelf fault
 put_told put.Unfit = Unfit
 put_told put.NoMemory = NoMemory
 
--- a site that is not there is a fault of the command line
+-- a site or an actor that is not there is a fault of the command line
 abbrev pub status_told : Fault → ℕ
 status_told (Setup fault) = 1
 status_told (Line line code) = 1
 status_told (NoSuchSite site) = 2
+status_told (NotToShow place) = 2
+status_told (NotToHide place) = 2
 status_told (File source why) = 1
 status_told Output = 1
 status_told Net = 1

@@ -13,12 +13,11 @@ use Rattle.pvp_text.specs.Reading.{Faults}
 use Rattle.pvp_text.specs.SetupText.{setup_text, setup_where, text_fault_is_memory}
 use Rattle.pvp_text.specs.Script.{script_at}
 use Rattle.pvp_command.specs.declared.fault.Fault.{Fault}
-use Rattle.pvp_command.specs.declared.fault.Fault.TheVariants.{NoSuchSite, Output}
+use Rattle.pvp_command.specs.declared.fault.Fault.TheVariants.{Output}
 use Rattle.pvp_command.specs.declared.files.FileFault.{FileFault}
 use Rattle.pvp_command.specs.declared.files.Source.{Source}
 use Rattle.pvp_command.specs.declared.files.Source.TheVariants.{Setup as OfSetup, Script as OfScript}
 use Rattle.pvp_command.specs.Fault.{text_told, run_told, file_told}
-use Rattle.pvp_command.specs.Fails.{unknown_site}
 use Rattle.pvp_text.specs.BookText.{book_text}
 use Rattle.vr_types.specs.declared.cell.MemCell.{MemCell}
 use Rattle.vr_types.specs.contracts.cell.MemCellBootCell.TheImpl.{ghosts as memory}
@@ -26,6 +25,8 @@ use Rattle.pvp_play.specs.declared.cells.Fail.{Fail}
 use Rattle.pvp_play.specs.declared.notes.Telling.{Telling}
 use Rattle.pvp_play.specs.Player.{Position}
 use Rattle.pvp_play.specs.Lines.{IsOpening, ArePlayed}
+use Rattle.pvp_picture.specs.declared.frame.Frame.{Frame}
+use Rattle.pvp_command.specs.Shows.{unknown_in}
 use Rattle.pvp_command.specs.declared.shows.Show.{Show}
 use Rattle.pvp_command.specs.declared.shows.Show.TheVariants.{Told, Drawn}
 
@@ -59,10 +60,11 @@ abbrev pub ShowsScript : Show → Setup → List Fail → List ℕ → Option (L
 ShowsScript (Told telling) s fails script old new = PlaysScript telling s fails script old new
 ShowsScript (Drawn steps) s fails script old new = DrawsScript s script old new
 
--- the setup has each site of which a save is to fail
-abbrev pub PlayWrites : Show → List ℕ → List Fail → List ℕ → Option (List ℕ) → Option (List ℕ) → Type 0
-PlayWrites show setup fails script old new =
-    (s : Setup) × (setup_text setup ≡ Ok s) × (unknown_site s fails ≡ None) × ShowsScript show s fails script old new
+-- the setup has each site of which a save is to fail, and each actor that is named for a picture
+abbrev pub PlayWrites : Show → List ℕ → Frame → List Fail → List ℕ → Option (List ℕ) → Option (List ℕ) → Type 0
+PlayWrites show setup frame fails script old new =
+    (s : Setup) × (setup_text setup ≡ Ok s) × (unknown_in s fails frame ≡ None)
+    × ShowsScript show s fails script old new
 
 -- the fault of a file that may fail so
 abbrev pub TellsFile : Source → (FileFault → Type 0) → Fault → Type 0
@@ -102,15 +104,17 @@ BookTells fails setup script_fails script old new told =
     ((TellsFile OfSetup fails told ⊎ TellsSetup setup told) × (new ≡ old))
     ⊎ ((s : Setup) × (setup_text setup ≡ Ok s) × TellsScript script_fails Book s script old new told)
 
--- a site of which a save is to fail is looked for before the script is read
-abbrev pub TellsPlay : {W : Type 0} → Option ℕ → (FileFault → Type 0) → Setup → Option (List ℕ) → W → W → Fault → Type 0
-TellsPlay (Some site) script_fails s script old new told = (told ≡ NoSuchSite site) × (new ≡ old)
+-- what the setup lacks is looked for before the script is read
+abbrev pub TellsPlay : {W : Type 0} → Option Fault → (FileFault → Type 0) → Setup → Option (List ℕ) → W → W → Fault
+    → Type 0
+TellsPlay (Some lacking) script_fails s script old new told = (told ≡ lacking) × (new ≡ old)
 TellsPlay None script_fails s script old new told = TellsScript script_fails Play s script old new told
 
--- the fault of a play: a file's or the setup's, and then nothing is written; that of a site that the setup lacks; or
--- the script's
-abbrev pub PlayTells : {W : Type 0} → (FileFault → Type 0) → List ℕ → List Fail → (FileFault → Type 0) → Option (List ℕ)
-    → W → W → Fault → Type 0
-PlayTells fails setup saves script_fails script old new told =
+-- the fault of a play: a file's or the setup's, and then nothing is written; that of a site or an actor that the setup
+-- lacks; or the script's
+abbrev pub PlayTells : {W : Type 0} → (FileFault → Type 0) → List ℕ → Frame → List Fail → (FileFault → Type 0)
+    → Option (List ℕ) → W → W → Fault → Type 0
+PlayTells fails setup frame saves script_fails script old new told =
     ((TellsFile OfSetup fails told ⊎ TellsSetup setup told) × (new ≡ old))
-    ⊎ ((s : Setup) × (setup_text setup ≡ Ok s) × TellsPlay (unknown_site s saves) script_fails s script old new told)
+    ⊎ ((s : Setup) × (setup_text setup ≡ Ok s)
+    × TellsPlay (unknown_in s saves frame) script_fails s script old new told)

@@ -18,9 +18,9 @@ Writes known (Check setup) old new status = (status ≡ 0) × IfSome (known setu
 Writes known (Book setup script) old new status =
     (status ≡ 0) × IfSome (known setup.now)
     (λ rules. IfSome (known script.now) (λ bytes. BookWrites rules bytes old new))
-Writes known (Play show setup script fails) old new status =
+Writes known (Play show frame setup script fails) old new status =
     (status ≡ 0) × IfSome (known setup.now)
-    (λ rules. IfSome (known script.now) (λ bytes. PlayWrites show rules fails.items bytes old new))
+    (λ rules. IfSome (known script.now) (λ bytes. PlayWrites show rules frame fails.items bytes old new))
 Writes known (Live told setup script) old new status = ⊥
 Writes known (Audit how setup journals) old new status =
     IfSome (known setup.now) (λ rules. AuditWrites how known rules
@@ -56,8 +56,8 @@ Tells known fails (Check setup) old new told =
 Tells known fails (Book setup script) old new told =
     IfSome (known setup.now) (λ rules. BookTells (fails setup.now) rules (fails script.now)
     (known script.now) old new told)
-Tells known fails (Play show setup script saves) old new told =
-    IfSome (known setup.now) (λ rules. PlayTells (fails setup.now) rules saves.items (fails script.now)
+Tells known fails (Play show frame setup script saves) old new told =
+    IfSome (known setup.now) (λ rules. PlayTells (fails setup.now) rules frame saves.items (fails script.now)
     (known script.now) old new told)
 Tells known fails (Live told_how setup script) old new told =
     IfSome (known setup.now) (λ rules. LiveTells (fails setup.now) rules (fails script.now)

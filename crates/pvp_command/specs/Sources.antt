@@ -39,7 +39,7 @@ abbrev pub sources_of : Request → Option Names
 sources_of (asked.Check setup) = Some (record { kind = kinds.Book; setup = setup.now; script = None; journals = [] })
 sources_of (asked.Book setup script) =
     Some (record { kind = kinds.Book; setup = setup.now; script = Some script.now; journals = [] })
-sources_of (asked.Play show setup script fails) =
+sources_of (asked.Play show frame setup script fails) =
     Some (record { kind = kinds.Play; setup = setup.now; script = Some script.now; journals = [] })
 sources_of (asked.Live told setup script) =
     Some (record { kind = kinds.Live; setup = setup.now; script = Some script.now; journals = [] })

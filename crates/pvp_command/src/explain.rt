@@ -69,6 +69,7 @@ pub fn explanation_of<F: Files>(
         Fault::Missing(actor) => actor_line(alloc, actor).map(Some),
         Fault::Shelf(fault) => folder_line(alloc, Code::Shelf(fault).meaning()).map(Some),
         Fault::Unfit => folder_line(alloc, Code::Record(WriteFault::Unfit).meaning()).map(Some),
+        Fault::NotToShow(_) | Fault::NotToHide(_) => Ok(None),
         Fault::NoSuchSite(_) | Fault::Output | Fault::Seats | Fault::NoMemory => Ok(None),
     }
 }

@@ -23,6 +23,12 @@ pub enum Fault {
     /// A save is to fail of a site that the setup lacks.
     #[error("error: the setup has no site {0}, of which a save is to fail")]
     NoSuchSite(u16),
+    /// A name of `--only`, counted from 1, is no actor's of the setup.
+    #[error("error: name {0} of `--only` is no actor of the setup")]
+    NotToShow(usize),
+    /// A name of `--hide`, counted from 1, is no actor's of the setup.
+    #[error("error: name {0} of `--hide` is no actor of the setup")]
+    NotToHide(usize),
     /// A file could not be read, and why.
     #[error("fault file")]
     File(Source, Unread),

@@ -16,18 +16,18 @@ ghost use Rattle.pvp_command.specs.Request.{CheckWrites, CheckTells, BookWrites,
 
 use crate::audits::audit;
 use crate::explain::{Sources, explanation_of};
-use crate::fails::unknown_site;
 use crate::fault::Fault;
 use crate::files::{Files, Source, read_source};
 use crate::keys::put_keys;
 use crate::lives::{live, without_net};
 use crate::output::Audience;
 use crate::request::{Asked, Request, parse};
-use crate::shows::Show;
+use crate::shows::{Show, unknown_in};
 use clap::Error;
 use clap::error::ErrorKind as Refusal;
 use pvp_codes::print_codes;
 use pvp_evidence::Shelf;
+use pvp_picture::frame::Frame;
 use pvp_picture::picture::picture;
 use pvp_play::{Fail, Telling, play_failing, trace};
 use pvp_text::{read_setup, run_book};
@@ -176,6 +176,7 @@ fn status_of(told: Result<u8, Fault>) -> u8
     match told {
         Ok(status) => status,
         Err(Fault::NoSuchSite(_)) => NO_FORM,
+        Err(Fault::NotToShow(_) | Fault::NotToHide(_)) => NO_FORM,
         Err(_) => FAULT,
     }
 }
@@ -252,10 +253,20 @@ fn run<F: Files, O: Write, E: Write>(
         Request::Book { setup, script } => book(alloc, files, *setup, *script, out)?,
         Request::Play {
             show,
+            frame,
             setup,
             script,
             fails,
-        } => play(alloc, files, *show, *setup, *script, fails.as_slice(), out)?,
+        } => play(
+            alloc,
+            files,
+            *show,
+            frame,
+            *setup,
+            *script,
+            fails.as_slice(),
+            out,
+        )?,
         Request::Live { setup, script, .. } => return without_net(
             alloc, files, *setup, *script, out,
         ),
@@ -362,6 +373,7 @@ fn play<F: Files, O: Write>(
     alloc: Global,
     files: &F,
     show: Show,
+    frame: &Frame<'_>,
     setup: &str,
     script: &str,
     fails: &[Fail],
@@ -369,19 +381,19 @@ fn play<F: Files, O: Write>(
 ) -> Result<(), Fault>
     ensures ok { OnOk result (IfSome (F.known files.now setup.now) (λ setup_bytes.
         IfSome (F.known files.now script.now) (λ script_bytes.
-        PlayWrites show setup_bytes fails.now script_bytes (O.contents out.old)
+        PlayWrites show setup_bytes frame.now fails.now script_bytes (O.contents out.old)
         (O.contents out.new)))) }
     ensures err { IfErr result (λ fault. IfSome (F.known files.now setup.now) (λ setup_bytes.
-        PlayTells (F.fails files.now setup.now) setup_bytes fails.now (F.fails files.now script.now)
+        PlayTells (F.fails files.now setup.now) setup_bytes frame.now fails.now (F.fails files.now script.now)
         (F.known files.now script.now)
         out.old out.new fault)) }
 {
     let bytes = read_source(alloc, files, Source::Setup, setup)?;
     let bank = read_setup(alloc, bytes.as_slice())?;
-    if let Some(site) = unknown_site(&bank, fails) {
-        return Err(Fault::NoSuchSite(site));
+    if let Some(fault) = unknown_in(&bank, fails, frame) {
+        return Err(fault);
     }
-    play_script(alloc, files, show, &bank, script, fails, out)
+    play_script(alloc, files, show, frame, &bank, script, fails, out)
 }
 
 /// Plays a script in a world of a setup, where some saves are to fail, and shows it as it is asked for.
@@ -389,6 +401,7 @@ fn play_script<F: Files, O: Write>(
     alloc: Global,
     files: &F,
     show: Show,
+    frame: &Frame<'_>,
     setup: &Setup,
     script: &str,
     fails: &[Fail],
@@ -402,13 +415,14 @@ fn play_script<F: Files, O: Write>(
         out.old out.new) }
 {
     let script = read_source(alloc, files, Source::Script, script)?;
-    show_play(alloc, show, setup, script.as_slice(), fails, out)
+    show_play(alloc, show, frame, setup, script.as_slice(), fails, out)
 }
 
 /// Plays the lines of a script, and prints what they print, prints the steps that they try, or draws some of these.
 fn show_play<O: Write>(
     alloc: Global,
     show: Show,
+    frame: &Frame<'_>,
     setup: &Setup,
     script: &[u8],
     fails: &[Fail],
@@ -423,7 +437,7 @@ fn show_play<O: Write>(
     match show {
         Show::Told(Telling::Books) => play_failing(alloc, setup, fails, script, out)?,
         Show::Told(Telling::Steps) => trace(alloc, setup, fails, script, out)?,
-        Show::Drawn(steps) => picture(alloc, setup, fails, script, steps, out)?,
+        Show::Drawn(steps) => picture(alloc, setup, fails, script, steps, frame, out)?,
     }
     Ok(())
 }

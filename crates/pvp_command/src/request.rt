@@ -12,6 +12,7 @@ use crate::serves::{NO_TASK, task_at};
 use crate::shows::{Show, show_at};
 use clap::error::ErrorKind;
 use clap::{Arg, ArgAction, ArgMatches, Command, Error};
+use pvp_picture::frame::Frame;
 use pvp_places::Task;
 use pvp_play::{Fail, Telling};
 use pvp_text::Kind;
@@ -30,9 +31,11 @@ pub enum Request<'a> {
         setup: &'a str,
         script: &'a str,
     },
-    /// A script, played in a world, how that is to be shown, and the saves that are to fail there: of each site one at most.
+    /// A script, played in a world, how that is to be shown, with what of a picture, and the saves that are to fail there: of
+    /// each site one at most.
     Play {
         show: Show,
+        frame: Frame<'a>,
         setup: &'a str,
         script: &'a str,
         fails: Vec<Fail>,
@@ -138,7 +141,13 @@ fn parse_command<'a>(
             (Some(setup), Some(script)) => Ok(Some(Request::Book { setup, script })),
             _ => Ok(None),
         },
-        "play" => parse_play(alloc, program, Show::Told(Telling::Books), words),
+        "play" => parse_play(
+            alloc,
+            program,
+            Show::Told(Telling::Books),
+            Frame::whole(alloc),
+            words,
+        ),
         "trace" => parse_trace(alloc, program, words),
         "live" => Ok(parse_live(words)),
         "audit" => parse_audit(alloc, words),
@@ -218,14 +227,24 @@ fn parse_trace<'a>(
     program: &mut Command<'a>,
     words: &ArgMatches<'a>,
 ) -> Result<Option<Request<'a>>, Error> {
-    match show_at(
-        words.get_flag("svg"),
-        words.get_str("from"),
-        words.get_str("to"),
-    ) {
-        Some(show) => parse_play(alloc, program, show, words),
+    let frame = frame_at(alloc, words)?;
+    let picture = words.get_flag("svg");
+    if !picture && !frame.is_whole() {
+        return Err(program.error(ErrorKind::ValueValidation, NO_PICTURE)?);
+    }
+    match show_at(picture, words.get_str("from"), words.get_str("to")) {
+        Some(show) => parse_play(alloc, program, show, frame, words),
         None => Err(program.error(ErrorKind::ValueValidation, NO_STEPS)?),
     }
+}
+
+/// What of a picture the words ask for, beside its steps.
+fn frame_at<'a>(alloc: Global, words: &ArgMatches<'a>) -> Result<Frame<'a>, AllocError> {
+    Ok(Frame {
+        title: words.get_str("title"),
+        only: Vec::from_slice(alloc, words.get_strs("only").unwrap_or(&[]))?,
+        hide: Vec::from_slice(alloc, words.get_strs("hide").unwrap_or(&[]))?,
+    })
 }
 
 /// The play that the words are, and the saves that they want to fail.
@@ -233,6 +252,7 @@ fn parse_play<'a>(
     alloc: Global,
     program: &mut Command<'a>,
     show: Show,
+    frame: Frame<'a>,
     words: &ArgMatches<'a>,
 ) -> Result<Option<Request<'a>>, Error> {
     let (Some(setup), Some(script)) = (words.get_str("setup"), words.get_str("script")) else {
@@ -241,6 +261,7 @@ fn parse_play<'a>(
     match read_fails(alloc, words.get_strs("fail").unwrap_or(&[]))? {
         Some(fails) => Ok(Some(Request::Play {
             show,
+            frame,
             setup,
             script,
             fails,
@@ -260,13 +281,13 @@ const SETUP_HELP: &str =
 const SCRIPT_HELP: &str = "A script: a text file with one statement a line";
 
 const EXPLAIN_HELP: &str =
-    "Tells after a fault, in a second line, where it is and why: which rule is broken and by which part or line, which file was not read";
+    "After a fault prints a second line, which says where it is and why: which rule is broken by which part or line, or which file was not read";
 
-const NO_EXPLAIN_HELP: &str = "Tells no second line, also where `--explain` stands too";
+const NO_EXPLAIN_HELP: &str = "Prints no second line, even with `--explain`";
 
 const FAIL_HELP: &str =
-    "Lets a save of a site's boot cell fail; may stand once for each site. SITE is the number of a site, AT counts its saves \
-from 1 and is at most 65535, and the cell then holds the new value at `new` and the one before at `old`. Numbers have no leading zero";
+    "Makes a save of a site's boot cell fail; may be given once for each site. SITE is the number of a site, AT counts its saves \
+from 1 and is at most 65535, and KEEP says what the cell then holds: `new` the new count, `old` the one before. Numbers have no leading zero";
 
 /// The error for words that name no saves.
 const NO_FAILS: &str =
@@ -274,26 +295,36 @@ const NO_FAILS: &str =
 not 0, and KEEP is `new` or `old`";
 
 const AGAIN_HELP: &str =
-    "Prints, where the audit says yes, a script in place of the books, which `play` takes: a line for each step that was taken, in one order that explains the run";
+    "If the audit says yes, prints the run as a script for `play` in place of the books: a line for each step that was taken, in one order that explains the run";
 
 const VERBOSE_HELP: &str =
-    "Tells on standard error what goes on, while it does: the connections, each line and what came of it, which sites are up and in which views, and the frames";
+    "Reports on standard error while the bank runs: the connections, each line and its outcome, the status and view of each site, and the frames";
 
 const SVG_HELP: &str =
-    "Writes one picture in place of the text, an SVG that stands alone: a lifeline for each actor, and an arrow for each envelope";
+    "Writes one picture in place of the text, an SVG that loads nothing: a lifeline for each actor, and an arrow for each envelope";
 
 const FROM_HELP: &str =
-    "With --svg: the first step that is drawn, by its number in the trace; else the first of all";
+    "With --svg: the first step to draw, by its number in the trace; without it step 1";
 
-const TO_HELP: &str = "With --svg: the last step that is drawn; else 60 at most are";
+const TO_HELP: &str = "With --svg: the last step to draw; without it at most 60 are drawn";
+
+const TITLE_HELP: &str = "With --svg: the heading of the picture, in place of `A run of the bank`";
+
+const ONLY_HELP: &str =
+    "With --svg: the actors to draw, by their names in scripts, as `USD,ALFA,s0`; an envelope is drawn if both of its actors are";
+
+const HIDE_HELP: &str = "With --svg: the actors not to draw";
+
+/// The error for words that say what to draw where nothing is drawn.
+const NO_PICTURE: &str = "`--title`, `--only` and `--hide` need `--svg`";
 
 /// The error for words that name no steps.
 const NO_STEPS: &str =
-    "`--from` and `--to` stand beside `--svg` and take a number of a step, from 1 to 4294967295 without a leading zero, \
+    "`--from` and `--to` need `--svg` and take the number of a step, from 1 to 4294967295 without a leading zero, \
 and the last step is not before the first";
 
 const CHECK_ABOUT: &str =
-    "Tells whether a setup meets the rules: prints `setup ok`, or the first rule that is broken";
+    "Checks whether a setup meets the rules: prints `setup ok`, or the first rule that is broken";
 
 const BOOK_ABOUT: &str =
     "Runs a script on one book: prints the answer to each command, and the book where the script asks";
@@ -303,70 +334,70 @@ const PLAY_ABOUT: &str =
 restarts: prints refused steps, and the books where the script asks";
 
 const TRACE_ABOUT: &str =
-    "Plays a script as `play` does, and prints each step that it tries, what came of it, and the envelopes that it sent, \
+    "Plays a script as `play` does, and prints each step that it tries, its outcome, and the envelopes that it sent, \
 by their numbers";
 
 const JOURNAL_HELP: &str =
-    "Puts a journal of each actor into this folder, which is made where it is not there: all that the actor took, as NAME.journal; \
+    "Writes a journal of each actor, NAME.journal, with all that it took, into this folder, which is new or empty; \
 `audit` judges them";
 
 const JOURNALS_HELP: &str = "A journal of each actor of the bank, in any order";
 
 const CUT_HELP: &str =
     "Judges the greatest part of the journals in which all that came to an actor was sent by its sender: for journals that were \
-copied while the bank ran, or of which one lost its end; tells on standard error how many events are cut off";
+copied while the bank ran, or one of which was truncated; reports on standard error how many events are cut off";
 
 const AUDIT_ABOUT: &str =
-    "Judges the journals of all actors of a bank: prints the books and `audit yes` where all that the actors did is one legal run, and else the first test that fails";
+    "Judges the journals of all actors of a bank: if together they are one legal run, prints the books and `audit yes`, else the first test that fails";
 
 const KEYS_ABOUT: &str =
-    "Makes a keys file for each actor of a bank, NAME.keys, by a secret of the bank";
+    "Makes a keys file for each actor of a bank, NAME.keys, from a secret of the bank";
 
 const SECRET_HELP: &str =
-    "A file with the bank's secret, of any bytes; who has it can speak for every actor, so it is kept apart from the bank";
+    "A file with the bank's secret: use at least 32 random bytes, and keep it apart from the bank, as who has it can speak for every actor";
 
-const INTO_HELP: &str = "The folder for the keys files, which is new or empty; else `keys`";
+const INTO_HELP: &str = "The folder for the keys files, new or empty; without it `keys`";
 
 const SERVE_ABOUT: &str =
-    "Serves one actor of a bank as a process of its own: takes what comes from other processes and from the terminal, writes it into its journal, and only then sends what came of it";
+    "Serves one actor of a bank as a process: takes events from other processes and the terminal, writes them into its journal, and only then sends what they caused";
 
 const BEGIN_ABOUT: &str =
-    "Begins one actor of a bank, once in its life: leaves in its folder what `serve` serves it from. Cut off, it can be said again; a folder in which \
-an actor was begun is refused. An actor that lost its folder may not be begun anew: docs/operating.md says what to do";
+    "Begins one actor of a bank, once in its life: makes the folder from which `serve` serves it. If it was interrupted, run it again; it refuses a folder \
+in which an actor was begun. Never begin an actor again that lost its folder: docs/operating.md says what to do";
 
 const LIFE_HELP: &str =
-    "The file that tells where the sites listen, where it has a line `bank NAME` for a name of this life of the bank";
+    "The peers file; needed if it has a line `bank NAME`, which names this life of the bank";
 
 const SITE_HELP: &str = "The site of this number";
 
 const NODE_HELP: &str =
-    "The node of this currency: served, it takes `payin MEMBER CCY AMT` and `close MEMBER CCY` at the terminal";
+    "The node of this currency: it takes `payin MEMBER CCY AMT` and `close MEMBER CCY` at the terminal";
 
 const CLIENT_HELP: &str =
-    "OP or the member of this name: served, it takes commands at the terminal, as they stand behind `do NAME` in a script, and prints the number and the answer of each";
+    "OP or the member of this name: it takes commands at the terminal, as after `do NAME` in a script, and prints the number and the answer of each";
 
 const PEERS_HELP: &str =
-    "Where the sites listen: a line `s0 HOST:PORT` for each, and `bank NAME` for a name of this life of the bank";
+    "The peers file: a line `s0 HOST:PORT` for each site, and `bank NAME` to name this life of the bank";
 
-const DATA_HELP: &str = "The folder of the actor, in which its journal stands";
+const DATA_HELP: &str = "The folder of the actor, with its journal";
 
 const KEYS_HELP: &str =
-    "The keys that the actor shares with others: a line `NAME HEX` for each; then each frame is tagged by one";
+    "The keys that the actor shares with others: a line `NAME HEX` for each, whose frames are then tagged";
 
-const BEAT_HELP: &str = "Milliseconds from beat to beat, 5 to 60000; else 50";
+const BEAT_HELP: &str = "Milliseconds from beat to beat, 5 to 60000; without it 50";
 
 const PATIENCE_HELP: &str =
-    "After how many beats without a word of the primary a site's timer runs out at the least, 2 to 1000; else 6";
+    "For at least how many beats a site hears nothing from the primary before its timer runs out, 2 to 1000; without it 6";
 
 const SYNC_HELP: &str =
-    "Has the device keep each batch of the journal before anything of it leaves, so that the actor comes back from a power cut as from a kill";
+    "Syncs each batch of the journal to the device before anything of it is sent, so that the actor restarts after a power cut as after a kill";
 
-const STAY_HELP: &str = "Serves on once the terminal has ended, until it is killed";
+const STAY_HELP: &str = "Keeps serving after standard input has ended, until it is killed";
 
 const TRUST_HELP: &str = "Lets a site listen beyond this machine without keys";
 
 const LIVE_ABOUT: &str =
-    "Runs a bank by itself while a script is played, each actor in threads of its own with streams over the loopback of this machine: prints the books and `audit yes` where all that the actors did is one legal run, and else the first test that fails";
+    "Runs a bank on threads while a script is played, with streams over this machine's loopback: if its run was legal, prints the books and `audit yes`, else the first test that fails";
 
 /// The forms of the program's words.
 fn program<'a>(alloc: Global) -> Result<Command<'a>, AllocError> {
@@ -415,7 +446,10 @@ fn with_picture<'a>(alloc: Global) -> Result<Command<'a>, AllocError> {
     with_fails(alloc, "trace", TRACE_ABOUT)?
         .arg(flag(alloc, "svg", SVG_HELP))?
         .arg(step(alloc, "from", FROM_HELP))?
-        .arg(step(alloc, "to", TO_HELP))
+        .arg(step(alloc, "to", TO_HELP))?
+        .arg(value(alloc, "title", "TEXT", TITLE_HELP))?
+        .arg(actors(alloc, "only", ONLY_HELP))?
+        .arg(actors(alloc, "hide", HIDE_HELP))
 }
 
 /// The live run, which may be printed as a script.
@@ -523,6 +557,16 @@ fn fail<'a>(alloc: Global) -> Arg<'a> {
         .long("fail")
         .value_name("SITE:AT:KEEP")
         .help(FAIL_HELP)
+        .action(ArgAction::Append)
+}
+
+/// Actors that may be named.
+fn actors<'a>(alloc: Global, id: &'a str, help: &'a str) -> Arg<'a> {
+    Arg::new(alloc, id)
+        .long(id)
+        .value_name("WHO,..")
+        .value_delimiter(',')
+        .help(help)
         .action(ArgAction::Append)
 }
 

@@ -1,10 +1,15 @@
 //! How a play is to be shown.
-ghost use Rattle.std.specs.Prelude.{◌≡◌, option_map};
-ghost use Rattle.pvp_command.specs.Shows.{step_at, step_or, last_at, show_at, are_in_order};
+ghost use Rattle.std.specs.Prelude.{◌≡◌, ◌<◌, length, option_map, position, IfSome};
+ghost use Rattle.pvp_command.specs.Shows.{step_at, step_or, last_at, show_at, are_in_order, is_unknown, first_unknown, unknown_name, unknown_in};
 
+use crate::fails::unknown_site;
+use crate::fault::Fault;
+use pvp_picture::frame::Frame;
 use pvp_picture::picture::Steps;
-use pvp_play::Telling;
+use pvp_places::actor_named;
+use pvp_play::{Fail, Telling};
 use pvp_text::amount;
+use pvp_types::Setup;
 
 /// How a play is to be shown.
 #[derive(Clone, Copy, Debug, PartialEq, Eq)]
@@ -72,4 +77,49 @@ fn are_in_order(steps: Steps) -> bool
     ensures { result ≡ are_in_order steps }
 {
     steps.from > 0 && steps.to.map_or(true, |last| steps.from <= last)
+}
+
+/// What the words of a play name and a setup lacks, as a fault: a site of which a save is to fail, or else an actor.
+pub fn unknown_in(setup: &Setup, fails: &[Fail], frame: &Frame<'_>) -> Option<Fault>
+    ensures { result ≡ unknown_in setup.now fails.now frame.now }
+{
+    match unknown_site(setup, fails) {
+        Some(site) => Some(Fault::NoSuchSite(site)),
+        None => unknown_name(setup, frame),
+    }
+}
+
+/// The first name of a picture's that is no actor's of a setup, as a fault.
+fn unknown_name(setup: &Setup, frame: &Frame<'_>) -> Option<Fault>
+    ensures { result ≡ unknown_name setup.now frame.now }
+{
+    match first_unknown(setup, frame.only.as_slice()) {
+        Some(place) => Some(Fault::NotToShow(place)),
+        None => first_unknown(setup, frame.hide.as_slice()).map(Fault::NotToHide),
+    }
+}
+
+/// The place of the first of these names that is no actor's of a setup, counted from 1.
+fn first_unknown(setup: &Setup, names: &[&str]) -> Option<usize>
+    ensures { result ≡ first_unknown setup.now names.now }
+{
+    match unknown_at(setup, names) {
+        Some(before) => Some(before + 1),
+        None => None,
+    }
+}
+
+/// How many names stand before the first of them that is no actor's of a setup.
+fn unknown_at(setup: &Setup, names: &[&str]) -> Option<usize>
+    ensures at { result ≡ position (λ name. is_unknown setup.now name.now) names.now }
+    ensures bound { IfSome result (λ before. before < length names.now) }
+{
+    names.iter().position(|name| is_unknown(setup, *name))
+}
+
+/// Whether a name is no actor's of a setup.
+fn is_unknown(setup: &Setup, name: &str) -> bool
+    ensures { result ≡ is_unknown setup.now name.now }
+{
+    actor_named(setup, name.as_bytes()).is_none()
 }

@@ -1,5 +1,7 @@
 -- Which steps of a run a scene shows, and what it has of each, and of envelopes.
-use Rattle.std.specs.Prelude.{◌≡◌, Bool, true, false, ℕ, ◌+◌, ◌-◌, List, [], length, min, slice_get, Option, Some, None, option_map, unwrap_or, Result, Ok, Err, All, string_bytes}
+use denote.Ref.{Bor}
+use Rattle.std.specs.Prelude.{◌≡◌, Bool, true, false, not, ◌&&◌, ℕ, ◌+◌, ◌-◌, List, [], ◌∷◌, bytes_eq, length, min, slice_get, Option, Some, None, option_map, unwrap_or, Result, Ok, Err, All, string_bytes}
+use Rattle.std.specs.List.{list_any}
 use Rattle.pvp_types.specs.declared.setup.Setup.{Setup}
 use Rattle.rtgs_node.specs.Node.{Envelope}
 use Rattle.vr_types.specs.declared.event.Why.{Why}
@@ -79,3 +81,16 @@ pub record ShowsPart (setup : Setup) (post : List Envelope) (noted : List Attemp
       (min end (length noted) - scene.earlier) scene.steps.items
   pub opening : scene.opening.items ≡ snapshots_after along scene.earlier
   pub flights : All (IsFlight setup post) scene.flights.items
+
+-- a name is among these
+abbrev pub has : List (Bor (List ℕ)) → List ℕ → Bool
+has names name = list_any (λ other. bytes_eq other.now name) names
+
+-- it is, where there are any
+abbrev pub has_or_none : List (Bor (List ℕ)) → List ℕ → Bool
+has_or_none [] name = true
+has_or_none (first ∷ others) name = has (first ∷ others) name
+
+-- AN ACTOR IS SHOWN that is one of those that are alone to be, where any are, and none of those that are not
+abbrev pub is_shown : List (Bor (List ℕ)) → List (Bor (List ℕ)) → List ℕ → Bool
+is_shown only hide name = has_or_none only name && not (has hide name)

@@ -4,9 +4,9 @@ use crate::acts::push_act;
 use crate::arrows::{push_ending, push_flights};
 use crate::escape::{push_cut, push_escaped};
 use crate::labels::{Label, look_of, push_said};
-use crate::layout::{MOST_SIGNS, Sheet, Stroke, lay_out};
+use crate::layout::{HEADING, HEADING_FOOT, MOST_SIGNS, NAMES, Sheet, Stroke, lay_out};
 use crate::legend::push_legend;
-use crate::lifeline::{push_all_marks, push_cuts, push_lifelines, push_line};
+use crate::lifeline::{push_all_marks, push_cuts, push_lifelines, push_line, push_words};
 use crate::scene::{Scene, ShownStep};
 use std::alloc::{AllocError, Global};
 
@@ -58,12 +58,20 @@ const HEAD: &str =
     "<defs><marker id=\"head\" viewBox=\"0 0 10 10\" refX=\"8\" refY=\"5\" markerWidth=\"8\" markerHeight=\"8\" orient=\"auto\"><path d=\"M0 1L9 5L0 9z\" fill=\"#333\"/></marker></defs>
 ";
 
-/// The picture of a scene, as one SVG that stands alone. `Err` where memory is refused.
-pub fn picture_of(alloc: Global, scene: &Scene) -> Result<String, AllocError> {
-    let sheet = lay_out(alloc, scene)?;
+/// The picture of a scene, as one SVG that stands alone, below a title of its own where there is one. `Err` where memory is
+/// refused.
+pub fn picture_of(alloc: Global, scene: &Scene, title: Option<&str>) -> Result<String, AllocError> {
+    let heading = heading_of(alloc, scene, title)?;
+    let sheet = lay_out(alloc, scene, heading.as_str())?;
     let mut text = String::new(alloc);
     push_opening(&mut text, &sheet)?;
-    push_heading(&mut text, scene)?;
+    push_words(
+        &mut text,
+        HEADING.class,
+        NAMES,
+        HEADING_FOOT,
+        heading.as_str(),
+    )?;
     push_guides(&mut text, &sheet)?;
     push_cuts(&mut text, &sheet)?;
     push_lifelines(&mut text, &sheet)?;
@@ -93,11 +101,23 @@ fn push_opening(text: &mut String, sheet: &Sheet) -> Result<(), AllocError> {
     )
 }
 
-/// Writes the title: which steps of how many are shown.
-fn push_heading(text: &mut String, scene: &Scene) -> Result<(), AllocError> {
-    text.push_str("<text class=\"heading\" x=\"14\" y=\"28\">A run of the bank: ")?;
-    push_which(text, scene)?;
-    text.push_str("</text>\n")
+/// What stands above a picture: its title, and which steps of how many are shown.
+fn heading_of(alloc: Global, scene: &Scene, title: Option<&str>) -> Result<String, AllocError> {
+    let mut heading = String::new(alloc);
+    push_title(&mut heading, title.unwrap_or("A run of the bank"))?;
+    heading.push_str(": ")?;
+    push_which(&mut heading, scene)?;
+    Ok(heading)
+}
+
+/// Appends a title, but for signs that no XML may have.
+fn push_title(text: &mut String, title: &str) -> Result<(), AllocError> {
+    for sign in title.chars() {
+        if sign >= ' ' && !matches!(sign, '\u{fffe}' | '\u{ffff}') {
+            text.push(sign)?;
+        }
+    }
+    Ok(())
 }
 
 /// Appends which steps are shown, and how many are not.

@@ -42,8 +42,16 @@ const MARGIN: usize = 16;
 /// How many lines of a side have a track of their own.
 const LINES: usize = 24;
 
-/// How far from the top the names of steps may begin.
-const HEADING: usize = 48;
+/// How the heading looks, and how far from the top it stands, and the names of steps below it may.
+pub const HEADING: Look = Look {
+    class: "heading",
+    size: 17,
+    is_bold: true,
+};
+
+pub const HEADING_FOOT: usize = 28;
+
+const HEADING_ROOM: usize = 48;
 
 /// How far above the room of the first lifeline the steps' names end.
 const SILL: usize = 12;
@@ -181,14 +189,18 @@ fn end_after(columns: &[usize]) -> usize {
     columns.last().copied().unwrap_or(LEFT).saturating_add(TAIL)
 }
 
-/// Finds a place for all of a scene.
-pub fn lay_out(alloc: Global, scene: &Scene) -> Result<Sheet<'_>, AllocError> {
+/// Finds a place for all of a scene, below a heading.
+pub fn lay_out<'a>(
+    alloc: Global,
+    scene: &'a Scene,
+    heading: &str,
+) -> Result<Sheet<'a>, AllocError> {
     let labels = labels_of(alloc, scene)?;
     let names = longest_name(scene);
     let mut tracks = Tracks::new(alloc, scene.actors.len())?;
     let columns = columns_of(alloc, scene, labels.as_slice(), &mut tracks)?;
     // a name leans by 30 degrees from upright: so high it is, and so far it reaches to the right
-    let sill = HEADING.saturating_add(names.saturating_mul(87) / 100);
+    let sill = HEADING_ROOM.saturating_add(names.saturating_mul(87) / 100);
     let mut rows = Vec::new(alloc);
     let low = push_rows(
         &mut rows,
@@ -202,6 +214,7 @@ pub fn lay_out(alloc: Global, scene: &Scene) -> Result<Sheet<'_>, AllocError> {
     let width = tracks
         .end()
         .max(leaning)
+        .max(NAMES.saturating_add(width_of(heading, HEADING)))
         .max(end_after(columns.as_slice()))
         .saturating_add(MARGIN)
         .max(LEAST_WIDTH);

@@ -7,6 +7,7 @@ pub mod arrows;
 pub mod draw;
 pub mod escape;
 pub mod executed;
+pub mod frame;
 pub mod labels;
 pub mod layout;
 pub mod legend;

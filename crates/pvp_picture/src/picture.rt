@@ -8,6 +8,7 @@ ghost use Rattle.pvp_picture.specs.Picture.{PictureEnds};
 
 use crate::draw::picture_of;
 use crate::executed::Executions;
+use crate::frame::Frame;
 use crate::plays::{Play, new_world, play_all};
 use crate::replay::snapshots;
 use crate::scene::Scene;
@@ -46,8 +47,8 @@ impl Steps {
     }
 }
 
-/// Plays a script as `trace` does, and in place of its text writes one picture of the steps that are to be shown: an SVG
-/// that stands alone. What the picture shows is not proved.
+/// Plays a script as `trace` does, and in place of its text writes one picture of the steps and actors that are to be shown: an
+/// SVG that stands alone. What the picture shows is not proved.
 ///
 /// The script is read whole first, so that a faulty one writes nothing, and its first faulty line is told, or that memory
 /// was refused to keep a line before that. Where memory is refused nothing is written: it is refused too where the run,
@@ -59,6 +60,7 @@ pub fn picture<W: Write>(
     fails: &[Fail],
     script: &[u8],
     steps: Steps,
+    frame: &Frame<'_>,
     writer: &mut W,
 ) -> Result<(), RunFault>
     requires { IsValid setup.now }
@@ -67,8 +69,8 @@ pub fn picture<W: Write>(
         result writer.old writer.new }
 {
     let lines = read_lines(alloc, setup, Kind::Play, script)?;
-    let scene = scene_of(alloc, setup, fails, lines.as_slice(), steps)?;
-    let text = picture_of(alloc, &scene)?;
+    let scene = scene_of(alloc, setup, fails, lines.as_slice(), steps, frame)?;
+    let text = picture_of(alloc, &scene, frame.title)?;
     write_text(writer, text.as_str())
 }
 
@@ -79,6 +81,7 @@ fn scene_of(
     fails: &[Fail],
     lines: &[Line],
     steps: Steps,
+    frame: &Frame<'_>,
 ) -> Result<Scene, AllocError>
     requires { IsValid setup.now }
 {
@@ -92,6 +95,7 @@ fn scene_of(
         snapshots: snapshots.as_slice(),
         executions: &executions,
         apart: &apart,
+        frame,
     };
     stage(alloc, &run, steps.first(), steps.end())
 }

@@ -142,7 +142,7 @@ impl Flight {
 /// A run, or some steps of it.
 #[derive(Debug, Drop)]
 pub struct Scene {
-    /// Clients and nodes that took part, then the sites.
+    /// Clients and nodes that took part, then the sites, but for those that are not to be shown.
     pub actors: Vec<Actor>,
     /// Where each site stands before the first step that is shown.
     pub opening: Vec<Snapshot>,

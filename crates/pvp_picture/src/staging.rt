@@ -5,6 +5,7 @@ ghost use Rattle.pvp_picture.specs.Scene.{ending_of, snapshots_after, IsShownSte
 
 use crate::apart::{Apart, Passing};
 use crate::executed::Executions;
+use crate::frame::Frame;
 use crate::scene::{Actor, Ending, Flight, Passed, Scene, Sending, ShownStep, Snapshot};
 use pvp_book::Book;
 use pvp_trace::Attempt;
@@ -18,7 +19,7 @@ use std::alloc::{AllocError, Global};
 use vr_types::{ActorId, Envelope, FIRST_SITE, MemCell, MsgOf};
 
 /// A run: its world at the end, its steps, where the sites stood before the first and after each, the rows that they executed,
-/// and what its lines did apart from steps.
+/// what its lines did apart from steps, and which actors are to be shown.
 #[derive(Drop)]
 pub struct Run<'a> {
     pub world: &'a World<MemCell>,
@@ -26,6 +27,7 @@ pub struct Run<'a> {
     pub snapshots: &'a [Vec<Snapshot>],
     pub executions: &'a Executions,
     pub apart: &'a Apart,
+    pub frame: &'a Frame<'a>,
 }
 
 /// By which steps envelopes were sent and first delivered, by their places on the post, 0 where a step never did; and why
@@ -431,7 +433,7 @@ fn push_flight(
     Ok(())
 }
 
-/// The actors that have a lifeline: clients and nodes that took part, then every site.
+/// The actors that have a lifeline, of those that are to be shown: clients and nodes that took part, then every site.
 fn actors_of(
     alloc: Global,
     run: &Run,
@@ -510,7 +512,7 @@ fn push_sites(alloc: Global, actors: &mut Vec<Actor>, run: &Run) -> Result<(), A
     Ok(())
 }
 
-/// Adds an actor.
+/// Adds an actor, where it is to be shown.
 fn push_new_actor(
     alloc: Global,
     actors: &mut Vec<Actor>,
@@ -520,6 +522,8 @@ fn push_new_actor(
 ) -> Result<(), AllocError> {
     let mut name = String::new(alloc);
     push_actor(&mut name, run.world.setup(), number)?;
-    actors.push(Actor { number, name, site })?;
+    if run.frame.shows(name.as_str()) {
+        actors.push(Actor { number, name, site })?;
+    }
     Ok(())
 }
