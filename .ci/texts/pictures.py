@@ -87,17 +87,20 @@ class Pictures(Runs):
 
     def test_some_actors_are_drawn(self):
         """Those alone that are named, or all but those; an envelope where both of its actors are. Every step keeps its place."""
-        for words, names, sent in [
-            ([], ["ALFA", "s0", "s1", "s2"], ["1", "2", "3", "4", "5"]),
-            (["--only", "s0,ALFA"], ["ALFA", "s0"], ["1"]),
-            (["--only", "s0", "--only", "ALFA"], ["ALFA", "s0"], ["1"]),
-            (["--hide", "s1"], ["ALFA", "s0", "s2"], ["1", "3", "5"]),
-            (["--only=ALFA,s0,s1,JPY", "--hide=s0"], ["ALFA", "s1"], ["2"]),
-            (["--hide", "ALFA,s0,s1,s2,OP,BETA,EUR"], [], []),
+        for words, names, sent, kinds in [
+            ([], ["ALFA", "s0", "s1", "s2"], ["1", "2", "3", "4", "5"], ["REQUEST", "PREPARE"]),
+            (["--only", "s0,ALFA"], ["ALFA", "s0"], ["1"], ["REQUEST"]),
+            (["--only", "s0", "--only", "ALFA"], ["ALFA", "s0"], ["1"], ["REQUEST"]),
+            (["--hide", "s1"], ["ALFA", "s0", "s2"], ["1", "3", "5"], ["REQUEST", "PREPARE"]),
+            (["--only=ALFA,s0,s1,JPY", "--hide=s0"], ["ALFA", "s1"], ["2"], ["REQUEST"]),
+            (["--hide", "ALFA"], ["s0", "s1", "s2"], ["4", "5"], ["PREPARE"]),
+            (["--hide", "ALFA,s0,s1,s2,OP,BETA,EUR"], [], [], []),
         ]:
             picture = self.printed([*PICTURE, *words], script=SCRIPT)
             self.assertEqual(re.findall(r'class="actor"[^>]*>(.*)</text>', picture), names)
             self.assertEqual(sorted(re.findall(r"<g><title>(\d+) ", picture)), sent)
+            self.assertEqual(sorted(re.findall(r'class="number"[^>]*>(\d+)<', picture)), sent)
+            self.assertEqual(re.findall(r'class="kind"[^>]*>(.*)</text>', picture), kinds)
             self.assertEqual(len(re.findall(r"<title>step \d", picture)), 5)
 
     def test_actors_that_are_not_there(self):

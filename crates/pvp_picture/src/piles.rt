@@ -130,10 +130,17 @@ fn push_step(labels: &mut Vec<Label>, scene: &Scene, place: usize) -> Result<(),
         return Ok(());
     };
     let mut piles = Piles::new(Some(place), row);
-    push_came(labels, &mut piles, step)?;
+    if comes_from_shown(scene, step) {
+        push_came(labels, &mut piles, step)?;
+    }
     push_news(labels, &mut piles, scene, place)?;
     push_sendings(labels, &mut piles, step)?;
     push_rows(labels, &mut piles, step)
+}
+
+/// Whether a step delivers nothing, or an envelope whose sender has a lifeline.
+fn comes_from_shown(scene: &Scene, step: &ShownStep) -> bool {
+    step.delivers.is_none() || place_of(scene.actors.as_slice(), step.sender).is_some()
 }
 
 /// Adds the number of the envelope that came, and why nothing came of it, on the side from which it comes.

@@ -66,11 +66,13 @@ pub struct ShownStep {
     pub crashes: bool,
     /// The number of the envelope that it delivers, where it does.
     pub delivers: Option<usize>,
+    /// Who sent that envelope, where there is one.
+    pub sender: Option<u16>,
     /// Whether it delivers an envelope of an actor whose lifeline stands below.
     pub from_below: bool,
     /// The rows that it executed and no step before it, in words, each with what it came to.
     pub rows: Vec<String>,
-    /// What it sent, each kind once.
+    /// What it sent to actors that are to be shown, each kind once.
     pub sendings: Vec<Sending>,
     /// Where each site stands after it.
     pub snapshots: Vec<Snapshot>,

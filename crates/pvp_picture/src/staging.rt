@@ -113,9 +113,10 @@ fn shown_step(alloc: Global, run: &Run, place: usize) -> Result<ShownStep, Alloc
         ending: ending_of(attempt.result),
         crashes: matches!(attempt.step, Step::Crash(_)),
         delivers: delivered_by(attempt.step),
+        sender: sender_of(run.world, attempt.step),
         from_below: is_from_below(run.world, attempt.step),
         rows: rows_at(alloc, run, place)?,
-        sendings: sendings_of(alloc, run.world, attempt)?,
+        sendings: sendings_of(alloc, run, attempt)?,
         snapshots: snapshots_at(alloc, run, place + 1)?,
     })
 }
@@ -151,19 +152,27 @@ fn row_words(alloc: Global, run: &Run, place: usize) -> Result<String, AllocErro
     Ok(words)
 }
 
-/// What a step sent, each kind once.
-fn sendings_of(
-    alloc: Global,
-    world: &World<MemCell>,
-    attempt: Attempt,
-) -> Result<Vec<Sending>, AllocError> {
+/// What a step sent to actors that are to be shown, each kind once.
+fn sendings_of(alloc: Global, run: &Run, attempt: Attempt) -> Result<Vec<Sending>, AllocError> {
     let mut sendings = Vec::new(alloc);
     for place in attempt.before..attempt.after {
-        if let Some(envelope) = world.envelope(place.saturating_add(1)) {
-            add_sending(&mut sendings, sending_of(alloc, world, envelope)?)?;
+        if let Some(envelope) = run.world.envelope(place.saturating_add(1)) {
+            if is_shown(alloc, run, envelope.to)? {
+                add_sending(&mut sendings, sending_of(alloc, run.world, envelope)?)?;
+            }
         }
     }
     Ok(sendings)
+}
+
+/// Whether an actor is to be shown.
+fn is_shown(alloc: Global, run: &Run, actor: u16) -> Result<bool, AllocError> {
+    if run.frame.is_whole() {
+        return Ok(true);
+    }
+    let mut name = String::new(alloc);
+    push_actor(&mut name, run.world.setup(), actor)?;
+    Ok(run.frame.shows(name.as_str()))
 }
 
 /// What an envelope adds to what its step sent.
@@ -268,6 +277,14 @@ fn actor_of(world: &World<MemCell>, step: Step) -> Option<u16> {
         Step::Timer(site) | Step::Crash(site) | Step::Restart(site) => {
             Some(ActorId::Site(site).number())
         }
+    }
+}
+
+/// Who sent the envelope that a step delivers, where there is one.
+fn sender_of(world: &World<MemCell>, step: Step) -> Option<u16> {
+    match step {
+        Step::Deliver(number) => world.envelope(number).map(|envelope| envelope.from),
+        _ => None,
     }
 }
 
