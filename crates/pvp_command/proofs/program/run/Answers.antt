@@ -1,6 +1,7 @@
 use Rattle.std.proofs.Common.{IfErr, IfSome, map, subst}
-use Rattle.std.proofs.lemmas.Result.{IfErr-weaker}
+use Rattle.std.proofs.lemmas.Result.{IfErr-weaker, err_from_is_err_and}
 use Rattle.pvp_command.specs.Audits.{AuditTells}
+use Rattle.pvp_command.specs.Request.{PlayTells}
 use Rattle.pvp_command.proofs.program.run.Goals as goal
 
 -- src/program.rt
@@ -19,3 +20,19 @@ returns-in-Audit-clause-err g c =
     IfErr c.audit.result
     (λ told. IfSome (known setup) (λ rules. AuditTells known fails setup rules (map (λ name. name.now) names) c.args.out.now c.audit.new.out told)))
     c.as_slice-in-Audit.ensures.value c.audit.ensures.err)
+
+-- src/program.rt
+pub returns-in_err-play-in-Play-clause-err : goal.returns-in_err-play-in-Play-clause-err
+returns-in_err-play-in-Play-clause-err g c =
+    let known = g.F.Files.known c.args.files.now in
+    let fails = g.F.Files.fails c.args.files.now in
+    let asked = c.in-Play in
+    let told = c.in_err-play-in-Play.field-0.0 in
+    let new = c.play.new.out in
+    let script = asked.script.now in
+    let p = err_from_is_err_and c.from_residual-in_err-play-in-Play.result c.from_residual-in_err-play-in-Play.ensures.1 in
+    rw (asked.is, p.1, p.2) (subst
+    (λ saves.
+    IfSome (known asked.setup.now)
+    (λ rules. PlayTells (fails asked.setup.now) rules asked.frame saves (fails script) (known script) c.args.out.now new told))
+    c.as_slice.ensures.value c.in_err-play-in-Play.ensures.err)
