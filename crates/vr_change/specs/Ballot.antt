@@ -12,7 +12,7 @@ with_starter starts start = if has_start starts start.from then starts else star
 abbrev pub with_ballot : {C : Type 0} → List (Vote C) → Vote C → List (Vote C)
 with_ballot votes vote = if has_vote votes vote.from then votes else votes ++ vote ∷ []
 
--- whether a message is left as a site that knows this learns what was told: it is not outdated then
+-- whether a message is left as a site with these boot numbers learns what was told: it is not outdated then
 abbrev pub is_left : List ℕ → List ℕ → ℕ → List ℕ → Bool
 is_left known told from sent = not (is_outdated (greater known told) from sent)
 

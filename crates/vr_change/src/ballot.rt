@@ -1,5 +1,5 @@
-//! The messages that a change of view collects, and what they decide. Where it says that a message is left, it is as the
-//! site learns what it was told: what decides is those that are left.
+//! The messages that a change of view collects, and what they decide. A message is left if it is not outdated once the
+//! site has learnt what it was told; only messages that are left decide.
 ghost use Rattle.std.specs.Prelude.{◌≡◌, ◌<◌, ◌==◌, ◌&&◌, ◌||◌, ◌++◌, ◌∷◌, [], not, nat_lt, nat_le, length, map, max, fold, count_by, slice_get, Some, None, IfSome, MatchOption};
 ghost use Rattle.vr_types.specs.Choice.{IsPick};
 ghost use Rattle.vr_types.specs.Group.{sites, others};
@@ -34,8 +34,8 @@ impl Claim {
         }
     }
 
-    /// Whether its vote goes before another: it was normal in a later view; or in the same, and its log is longer; or
-    /// both are the same, and its site is lower.
+    /// Whether its vote goes before another: it was last normal in a later view; or in the same, and its log is
+    /// longer; or both are the same, and its site is lower.
     pub fn goes_before(self, other: Claim) -> bool
         ensures { result ≡ claims_before self other }
     {
@@ -90,7 +90,7 @@ pub fn votes_now<M: Machine>(running: &Running<M>, told: &Known, from: u16, site
     has_vote_left(running, told, site) || from == site
 }
 
-/// Whether the votes of f+1 sites are left, with the one that votes now.
+/// Whether the votes of f+1 sites or more are left, with the one that comes now.
 pub fn enough_voted<M: Machine>(
     config: Config,
     running: &Running<M>,
@@ -111,7 +111,7 @@ pub fn enough_voted<M: Machine>(
     config.f < count
 }
 
-/// Whether f others take part in the change, with the one that tells it now.
+/// Whether at least f others take part in the change, counting the one whose message comes now.
 pub fn enough_started<M: Machine>(
     config: Config,
     running: &Running<M>,
@@ -132,7 +132,7 @@ pub fn enough_started<M: Machine>(
     config.f <= count
 }
 
-/// Whether a site is another that takes part in the change.
+/// Whether a site is another one that takes part in the change.
 fn takes_part<M: Machine>(
     config: Config,
     running: &Running<M>,
@@ -181,8 +181,8 @@ fn goes_next<M: Machine>(running: &Running<M>, told: &Known, best: Option<usize>
     }
 }
 
-/// The index of the vote that goes before all others that are left and one of this claim; or `None`, where that one goes
-/// before all.
+/// The index of the vote that goes before all others that are left and before one of this claim; `None` where that one
+/// goes before all.
 pub fn best_before<M: Machine>(running: &Running<M>, told: &Known, new: Claim) -> Option<usize>
     ensures within { IfSome result (λ at. at < length running.now.votes.items) }
     ensures pick { (vote : Vote M.Cmd) → claim vote ≡ new →
@@ -199,7 +199,7 @@ pub fn best_before<M: Machine>(running: &Running<M>, told: &Known, new: Claim) -
     }
 }
 
-/// The largest commit-number of the votes that are left, 0 of none.
+/// The largest commit-number of the votes that are left; 0 if there are none.
 pub fn most_done<M: Machine>(running: &Running<M>, told: &Known) -> u16
     ensures { result ≡ fold (λ most vote. max most vote.done) 0
         (votes_left running.now.known told.now (map vote_of running.now.votes.items)) }

@@ -1,3 +1,4 @@
+//! The start of a change of view, and what a site in change sends.
 ghost use Rattle.std.specs.Prelude.{◌≡◌, ◌+◌, ◌*◌, ◌<◌, ◌≤◌, ◌∷◌, [], false, IfOk, OnOk, List};
 ghost use Rattle.vr_types.specs.declared.cell.Boot.{Boot};
 ghost use Rattle.vr_types.specs.Change.{on_timer, beats_in_change, sends_vote};
@@ -14,7 +15,7 @@ use vr_types::{
     Config, DoViewChangeOf, Envelope, Machine, MsgOf, Outcome, OutcomeOf, StartViewChange, Status,
 };
 
-/// Timer: the change to the next view begins, and all are told.
+/// Timer: the change to the next view begins, and STARTVIEWCHANGE goes to all others.
 pub fn timer<M: Machine>(
     alloc: Global,
     config: Config,
@@ -35,7 +36,7 @@ pub fn timer<M: Machine>(
     })
 }
 
-/// Beat of a site in change: it says again what it has said of its view.
+/// Beat of a site in change: it sends again what it has sent for its view.
 pub fn beat_in_change<M: Machine>(
     alloc: Global,
     config: Config,

@@ -1,3 +1,4 @@
+//! What a site learns of boot numbers, and what it gives up by that.
 ghost use Rattle.std.specs.Prelude.{◌≡◌, ℕ, ◌≤◌, List, length};
 ghost use Rattle.vr_types.specs.declared.cell.Boot.{Boot};
 ghost use Rattle.vr_types.specs.Site.{Ack};
@@ -8,15 +9,16 @@ ghost use Rattle.vr_change.specs.Ballot.{is_left as stays};
 use vr_log::Running;
 use vr_types::{Known, Machine};
 
-/// Whether a message that is collected is left as the site learns what it was told now: it is not of an earlier boot of
-/// its sender than is known then.
+/// Whether a collected message is left as the site learns what it was told now: it is not of an earlier boot of its
+/// sender than is known then.
 pub fn is_left<M: Machine>(running: &Running<M>, told: &Known, from: u16, sent: &Known) -> bool
     ensures { result ≡ stays running.now.known told.now from sent.now }
 {
     !running.known.is_outdated(from, sent) && !told.is_outdated(from, sent)
 }
 
-/// The site learns what a sender knew, and gives up each message that is outdated by it. It takes no memory.
+/// The site learns what a sender knew, and gives up each collected message that this shows to be outdated. It takes no
+/// memory.
 pub fn learn<M: Machine>(running: &mut Running<M>, told: &Known)
     requires { length told.now ≤ length running.old.known }
     ensures status { running.new.status ≡ running.old.status }

@@ -1,7 +1,7 @@
-//! View change and state transfer: what a running site does as its timer runs out, with STARTVIEWCHANGE, DOVIEWCHANGE,
-//! STARTVIEW, GETSTATE and NEWSTATE, and with a beat while it is in change. Each call is the case of the site step that
-//! has its name. Its `Err` is want of memory, and what runs may then only be dropped; an event that is dropped takes no
-//! memory and changes nothing.
+//! View change and state transfer: what a running site does when its timer runs out, with STARTVIEWCHANGE,
+//! DOVIEWCHANGE, STARTVIEW, GETSTATE and NEWSTATE, and with a beat while it is in change. Each call is the case of the
+//! site step that has its name. Its `Err` is lack of memory, after which the running state may only be dropped; an
+//! event that is dropped takes no memory and changes nothing.
 #![tactic(auto)]
 
 mod ballot;

@@ -1,4 +1,5 @@
-//! The opening of a view, with what the site was told by the message that came: its primary takes the log that goes before all others, tells all, and answers the clients.
+//! The opening of a view, with what the message that came tells of boot numbers: the primary takes the log that goes
+//! before all others, sends it to all others, and answers the clients.
 ghost use Rattle.std.specs.Prelude.{◌≡◌, ◌≢◌, ◌<◌, ◌≤◌, ◌*◌, ◌++◌, ◌∷◌, [], false, IfOk, OnOk, List, length, map, slice_get, Some};
 ghost use Rattle.vr_types.specs.declared.cell.Boot.{Boot};
 ghost use Rattle.vr_types.specs.Change.{opened_with, own_vote};
@@ -45,7 +46,7 @@ pub fn open_with_kept<M: Machine>(
     }
 }
 
-/// Opens the view with the votes that are kept, and one that comes from a site that has none among them.
+/// Opens the view with the votes that are kept and a new one, whose site has none among them.
 pub fn open_with_new<M: Machine>(
     alloc: Global,
     config: Config,
@@ -78,8 +79,8 @@ pub fn open_with_new<M: Machine>(
     }
 }
 
-/// Opens the view with the votes that are kept, and the site's own, which is not among them. Where its own log goes
-/// before the others, it stays.
+/// Opens the view with the votes that are kept and the site's own, which is not among them. Where its own log goes
+/// before the others, the log stays.
 pub fn open_with_own<M: Machine>(
     alloc: Global,
     config: Config,
@@ -166,8 +167,8 @@ pub fn open_with_rows<M: Machine>(
     open(alloc, config, running, told, done, sent)
 }
 
-/// Opens the view with the log that the site has: it learns what it was told, is normal in the view, executes what any
-/// voter had, and tells all; then the clients are answered.
+/// Opens the view with the log that the site has: it learns what it was told, is normal in the view, executes to the
+/// largest commit-number of the votes, and sends STARTVIEW to all others; then the clients are answered.
 pub fn open<M: Machine>(
     alloc: Global,
     config: Config,

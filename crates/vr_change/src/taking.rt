@@ -1,3 +1,4 @@
+//! What a site does with STARTVIEW, and how it takes a log.
 ghost use Rattle.std.specs.Prelude.{◌≡◌, ◌+◌, ◌≤◌, ◌++◌, ◌==◌, ◌&&◌, [], OnOk, length, take};
 ghost use Rattle.vr_types.specs.Change.{on_start_view};
 ghost use Rattle.vr_types.specs.Site.{is_normal};
@@ -46,8 +47,8 @@ pub fn is_normal_in<M: Machine>(running: &Running<M>, view: u32) -> bool
     runs_normally(running.status) && view == running.view
 }
 
-/// In a view these rows are taken after the first `base` of the log, and the site is normal there: what is committed is
-/// executed, and the log acknowledged where some of it is left. Rows that do not begin with those that the site has
+/// Puts these rows after the first `base` of the log, and is normal in this view: what is committed is executed, and
+/// the log is acknowledged if some of it is not executed yet. Rows that do not begin with those that the site has
 /// executed are dropped.
 pub fn take_log<M: Machine>(
     alloc: Global,

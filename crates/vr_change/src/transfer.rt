@@ -1,3 +1,4 @@
+//! What a site does with GETSTATE and NEWSTATE.
 ghost use Rattle.std.specs.Prelude.{◌≡◌, ◌+◌, ◌*◌, ◌≤◌, IsTrue, OnOk, List, length};
 ghost use Rattle.vr_types.specs.declared.cell.Boot.{Boot};
 ghost use Rattle.vr_types.specs.Site.{Ack};
@@ -45,7 +46,7 @@ pub fn get_state<M: Machine>(
     sends_one(alloc, mail_to(config, from, state))
 }
 
-/// NEWSTATE: the rows that come after the first `base` of the log are taken, and the site is normal in their view.
+/// NEWSTATE: the site puts the rows after the first `base` of its log, and is normal in their view.
 pub fn new_state<M: Machine>(
     alloc: Global,
     config: Config,
@@ -72,7 +73,7 @@ pub fn new_state<M: Machine>(
     take_log(alloc, config, running, msg.view, base, msg.done, msg.rows)
 }
 
-/// Whether so many rows after the first `base` fit the log.
+/// Whether a number of rows after the first `base` fits the log.
 fn fits<M: Machine>(running: &Running<M>, view: u32, base: usize, rows: usize) -> bool
     requires ready { IsReady M.Machine running.now.kept }
     requires base { base ≤ MAX_ROWS }

@@ -1,3 +1,4 @@
+//! What a site does with STARTVIEWCHANGE and DOVIEWCHANGE.
 ghost use Rattle.std.specs.Prelude.{◌≡◌, ◌≢◌, ℕ, ◌<◌, ◌≤◌, ◌==◌, ◌&&◌, false, IfOk, OnOk, OnErr, List, length, map};
 ghost use Rattle.vr_types.specs.declared.cell.Boot.{Boot};
 ghost use Rattle.vr_types.specs.Change.{on_start_view_change, on_do_view_change, is_to_vote, with_start, with_vote, own_vote as vote_made};
@@ -23,8 +24,8 @@ use vr_log::send::{dropped, primary_of};
 use vr_log::{Running, StartOf, VoteOf};
 use vr_types::{Config, Envelope, EnvelopeOf, Known, Machine, Outcome, OutcomeOf, Why};
 
-/// STARTVIEWCHANGE: the site learns what the sender knew, takes part in the change to the view, votes once f others take
-/// part, and as the primary opens the view where it can.
+/// STARTVIEWCHANGE: the site learns what the sender knew, takes part in the change to the view, votes once f others
+/// take part, and opens the view where it is its primary and can.
 pub fn start_view_change<M: Machine>(
     alloc: Global,
     config: Config,
@@ -88,7 +89,8 @@ pub fn do_view_change<M: Machine>(
     take_vote(alloc, config, running, vote, sent)
 }
 
-/// The change to the view begins, where it is later than the site's; what was told is learnt then. Gives what all are told.
+/// Starts the change to the view where that is later than the site's, and then learns what was told. Answers the
+/// messages that go to all others.
 fn start_later<M: Machine>(
     alloc: Global,
     config: Config,
@@ -187,7 +189,7 @@ fn is_due<M: Machine>(config: Config, running: &Running<M>, told: &Known, from: 
     enough_started(config, running, told, from) && !running.voted
 }
 
-/// Keeps a STARTVIEWCHANGE, once of each site. An `Err` leaves what runs as it was.
+/// Keeps a STARTVIEWCHANGE, one of each site. An `Err` leaves the running state as it was.
 fn keep_start<M: Machine>(running: &mut Running<M>, start: StartOf) -> Result<(), AllocError>
     ensures stays { running.new ≡ record running.old { starts = running.new.starts } }
     ensures starts { OnOk result (map start_of running.new.starts.items
@@ -199,7 +201,8 @@ fn keep_start<M: Machine>(running: &mut Running<M>, start: StartOf) -> Result<()
     Ok(())
 }
 
-/// The primary learns what a STARTVIEWCHANGE tells, keeps it, and its own vote where it votes; the view stays closed.
+/// The primary learns what a STARTVIEWCHANGE tells, and keeps it, with its own vote if it votes; the view is not
+/// opened.
 fn wait<M: Machine>(
     alloc: Global,
     config: Config,
@@ -225,7 +228,8 @@ fn wait<M: Machine>(
     Ok(handled(sent))
 }
 
-/// Keeps the site's own vote, where it has none. After an `Err` what runs may only be dropped.
+/// Keeps the site's own vote, unless one of its own is kept already. After an `Err` the running state may only be
+/// dropped.
 fn keep_own_vote<M: Machine>(
     alloc: Global,
     config: Config,
@@ -281,7 +285,7 @@ fn take_vote<M: Machine>(
     }
 }
 
-/// The primary learns what a vote tells, and keeps it, the first of each site; the view stays closed.
+/// The primary learns what a vote tells, and keeps it if it is the first of its site; the view is not opened.
 fn keep_vote<M: Machine>(
     running: &mut Running<M>,
     vote: VoteOf<M::Cmd>,

@@ -21,7 +21,7 @@ newest_in clients client = (known_in clients client).newest
 abbrev pub reply_in : {R : Type 0} → ClientsOf R → ℕ → Option (ℕ × R)
 reply_in clients client = (known_in clients client).answer
 
--- the number of the last executed row of a client of whom this is known, 0 for none
+-- the number of the last executed row in such an entry, 0 for none
 abbrev pub executed_of : {R : Type 0} → ClientOf R → ℕ
 executed_of known = option_map_or (λ answer. answer.0) known.answer 0
 

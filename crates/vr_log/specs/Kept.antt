@@ -1,4 +1,4 @@
--- What a running site's log, clients' table and machine have to do with each other.
+-- How a running site's log, clients' table and machine fit together.
 use Rattle.std.specs.Prelude.{◌≡◌, ℕ, ◌-◌, ◌≤◌, List, length, take, slice_get, Option, option_map}
 use Rattle.vr_types.specs.declared.machine.Machine.{Ghosts}
 use Rattle.vr_types.specs.declared.message.EnvelopeOf.{EnvelopeOf}
@@ -18,23 +18,23 @@ answer_to m start log place =
     (λ row. record { client = row.client; number = row.number; reply = answer_at m start log place row })
     (slice_get log (place - 1))
 
--- what a client was last told: the number of its last executed row, and the answer to it
+-- what a client was last answered: the number of its last executed row, and the answer to it
 abbrev pub last_answer : {H C R O S : Type 0} → Ghosts H C R O S → H → List (RowOf C) → ℕ → Option (ℕ × R)
 last_answer m start executed client =
     option_map (λ placed. (placed.1.number, answer_at m start executed placed.0 placed.1)) (last_of executed client)
 
--- no more rows are done than there are, and the machine counts those that are
+-- no more rows are executed than there are, and the machine counts those that are
 pub record IsReady {H C R O S : Type 0} (m : Ghosts H C R O S) (k : Kept H C R O S) : Type 0 where
   pub within : k.done ≤ length k.log
   pub count : m.count k.machine ≡ k.done
 
--- a log begins with the rows that are done
+-- a log begins with the executed rows
 pub record KeepsExecuted {H C R O S : Type 0} (k : Kept H C R O S) (log : List (RowOf C)) : Type 0 where
   pub within : k.done ≤ length log
   pub same : take k.done log ≡ take k.done k.log
 
--- The machine went from start through the first rows, as many as are done; the table says of each client what the log
--- and the executed rows say.
+-- The machine started from `start` and executed the first `done` rows; the table says of each client what the log and
+-- the executed rows say.
 pub record IsKept {H C R O S : Type 0} (m : Ghosts H C R O S) (start : H) (k : Kept H C R O S) : Type 0 where
   pub within : k.done ≤ length k.log
   pub count : m.count k.machine ≡ k.done

@@ -15,7 +15,7 @@ pub record Drops {C R O : Type 0} (out : OutcomeOf C R O) (why : Why) : Type 0 w
   pub mails : out.sent.items ≡ []
   pub dropped : out.dropped ≡ Some why
 
--- how an event ended that was not refused
+-- the ending of an event that was not refused
 abbrev pub ended : Option Why → Ending
 ended None = Handled
 ended (Some why) = Dropped why

@@ -1,4 +1,4 @@
--- The site that a running site's parts show.
+-- The site that the parts of a running site stand for.
 use Rattle.std.specs.Prelude.{◌≡◌, ℕ, ◌+◌, ◌*◌, true, List, [], length, map, nat_le, slice_index, Result, MatchResult}
 use Rattle.std.specs.declared.alloc.AllocError.{AllocError}
 use Rattle.vr_types.specs.declared.cell.Boot.{Boot}
@@ -24,12 +24,12 @@ vote_of vote =
 abbrev pub start_of : StartOf → Start
 start_of start = record { from = start.from; known = start.known }
 
--- One number a site sums up the acknowledgements that came: site j has acknowledged the first n rows exactly where n is
--- at most its number.
+-- One number for each site sums up the acknowledgements that came: site j has acknowledged the first n rows exactly if
+-- n is at most its number.
 abbrev pub SumUp : List ℕ → List Ack → Type 0
 SumUp acked acks = (j n : ℕ) → has_acknowledged acks n j ≡ nat_le n (slice_index acked j)
 
--- the site that runs so, over this cell, where these acknowledgements came
+-- the site with this running state, over this cell, where these acknowledgements came
 abbrev pub site_of : {H C R O S : Type 0} → Running H C R O S → List Ack → Boot → Site C
 site_of r acks cell = record {
   status = r.status;
@@ -49,8 +49,8 @@ site_of r acks cell = record {
   cell = cell;
 }
 
--- what runs is kept from this start, has a number of rows and of boots for each of 2f+1 sites, is normal or in change,
--- and keeps one vote of a site
+-- the running state is kept from this start, has one number of acknowledged rows and one boot number for each of 2f+1
+-- sites, is normal or in change, and keeps at most one vote of each site
 pub record IsSound {H C R O S : Type 0} (m : Ghosts H C R O S) (start : H) (f : ℕ) (r : Running H C R O S)
     : Type 0 where
   pub kept : IsKept m start r.kept
@@ -65,7 +65,7 @@ pub record IsRunning {H C R O S : Type 0} (m : Ghosts H C R O S) (start : H) (f 
   pub sound : IsSound m start f r
   pub summed : SumUp r.acked.items acks
 
--- What was done is the step: what runs shows the site after it, and the outcome is the step's.
+-- What was done is the step: the running state is that of the site after it, and the outcome is the step's.
 pub record Meets {H C R O S : Type 0} (m : Ghosts H C R O S) (start : H) (f me : ℕ) (r : Running H C R O S)
     (out : OutcomeOf C R O) (step : Step C R O) : Type 0 where
   pub running : IsRunning m start f r step.site.collected.acks
@@ -73,13 +73,13 @@ pub record Meets {H C R O S : Type 0} (m : Ghosts H C R O S) (start : H) (f me :
   pub sent : out.sent.items ≡ envelopes m start me step
   pub ending : step.ending ≡ ended out.dropped
 
--- What was done is the step; or a growth was refused, which comes only where the event is handled.
+-- What was done is the step; or memory was refused, which happens only where the event is handled.
 abbrev pub Follows : {H C R O S : Type 0} → Ghosts H C R O S → H → ℕ → ℕ → Running H C R O S
     → Result (OutcomeOf C R O) AllocError → Step C R O → Type 0
 Follows m start f me r result step =
     MatchResult result (λ out. Meets m start f me r out step) (λ _. step.ending ≡ Handled)
 
--- what runs stays sound, from whatever start
+-- the running state stays sound, from whatever start
 abbrev pub StaysSound : {H C R O S : Type 0} → Ghosts H C R O S → ℕ → Running H C R O S → Running H C R O S → Type 0
 StaysSound {H = H} m f old new = (start : H) → IsSound m start f old → IsSound m start f new
 

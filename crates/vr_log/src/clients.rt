@@ -1,3 +1,4 @@
+//! The clients' table of a site: for each client its newest request, and the last answer to it.
 ghost use Rattle.std.specs.Prelude.{◌≡◌, ℕ, ◌*◌, ◌==◌, ◌<◌, ◌≤◌, ◌++◌, List, Some, None, length, take, OnOk, OnErr, if◌then◌else◌};
 ghost use Rattle.vr_types.specs.declared.row.RowOf.{RowOf};
 ghost use Rattle.vr_types.specs.Rows.{newest};
@@ -36,8 +37,8 @@ impl<R> ClientOf<R> {
     }
 }
 
-/// Of each client the number of its newest row, and what it was last answered. Clients have small numbers, so each has its
-/// own place; one that has none has sent nothing.
+/// For each client the number of its newest row, and what it was last answered. Clients have small numbers, so each
+/// has its own place; a client without one has sent nothing.
 #[derive(Drop)]
 pub struct ClientsOf<R> {
     alloc: Global,
@@ -88,7 +89,7 @@ impl<R: Copy> ClientsOf<R> {
         self.known(client).answer
     }
 
-    /// Notes that a client's row of this number was executed and answered so. An `Err` leaves the table as it was.
+    /// Notes that a client's row of this number was executed, with this answer. An `Err` leaves the table as it was.
     pub fn answered(&mut self, client: u16, number: u32, reply: R) -> Result<(), AllocError>
         ensures ok { OnOk result ((q : ℕ) →
             reply_in self.new q ≡ (if client == q then Some (number, reply)
@@ -123,7 +124,7 @@ impl<R: Copy> ClientsOf<R> {
         self.table.resize(place + 1, ClientOf::new())
     }
 
-    /// Notes the rows that come at a log's end. After an `Err` this may only be dropped.
+    /// Notes the rows that are put at the end of a log. After an `Err` this may only be dropped.
     pub fn note_rows<C: Copy>(&mut self, rows: &RowsOf<C>) -> Result<(), AllocError>
         ensures ok { OnOk result ((log : List (RowOf C)) →
             ((q : ℕ) → newest_in self.old q ≡ newest log q) →
@@ -136,7 +137,7 @@ impl<R: Copy> ClientsOf<R> {
         Ok(())
     }
 
-    /// Notes the rows of a page that come at a log's end. After an `Err` this may only be dropped.
+    /// Notes the rows of a page that are put at the end of a log. After an `Err` this may only be dropped.
     fn note_page<C: Copy>(&mut self, page: &[RowOf<C>]) -> Result<(), AllocError>
         ensures ok { OnOk result ((log : List (RowOf C)) →
             ((q : ℕ) → newest_in self.old q ≡ newest log q) →
@@ -149,8 +150,8 @@ impl<R: Copy> ClientsOf<R> {
         Ok(())
     }
 
-    /// Takes the newest numbers from a log whose first `done` rows were executed: the rows behind these alone are looked
-    /// at. The answers stay. After an `Err` this may only be dropped.
+    /// Sets the newest numbers from a log whose first `done` rows were executed: only the rows behind these are read.
+    /// The answers stay. After an `Err` this may only be dropped.
     pub fn renumber<C: Copy>(&mut self, log: &RowsOf<C>, done: usize) -> Result<(), AllocError>
         ensures ok { OnOk result (((q : ℕ) →
             executed_in self.old q ≡ newest (take done log.now) q) →

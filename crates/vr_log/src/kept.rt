@@ -1,3 +1,4 @@
+//! What a running site stores: its log, its clients' table, its machine, and how many rows are executed.
 ghost use Rattle.std.specs.Prelude.{◌≡◌, ℕ, ◌+◌, ◌<◌, ◌≤◌, ◌++◌, ◌∷◌, [], Some, slice_get, filter_map, IfOk, OnOk, IsTrue, ◌↔◌, length, max, min, take};
 ghost use Rattle.std.specs.List.{starts_with};
 
@@ -8,7 +9,7 @@ use vr_types::{MAX_ROWS, Machine, PAGE_ROWS, Row, Rows, RowsOf, is_same};
 /// A site's log: it is a list of rows, as messages carry them.
 pub type Log<M> = Rows<M>;
 
-/// What a client is told of its request.
+/// The answer to a client's request, with the client and the number of the request.
 #[derive(Clone, Copy, Debug, PartialEq, Eq)]
 pub struct AnswerOf<R> {
     pub client: u16,
@@ -19,7 +20,7 @@ pub struct AnswerOf<R> {
 /// An answer of a machine.
 pub type Answer<M> = AnswerOf<<M as Machine>::Reply>;
 
-/// The log, what the clients were told, the machine, and how many rows of the log went into it.
+/// The log, the clients' table, the machine, and how many rows of the log the machine has executed.
 #[derive(Drop)]
 pub struct Kept<M: Machine> {
     pub log: Log<M>,
@@ -48,7 +49,7 @@ impl<M: Machine> Kept<M> {
         Ok(())
     }
 
-    /// Whether the log that has these rows after its first `base` begins with the rows that are done. It takes no
+    /// Whether the log that has these rows after its first `base` still begins with the executed rows. It takes no
     /// memory.
     pub fn keeps_executed(&self, base: usize, rows: &RowsOf<M::Cmd>) -> bool
         requires ready { IsReady M.Machine self.now }
@@ -77,9 +78,9 @@ impl<M: Machine> Kept<M> {
         true
     }
 
-    /// The first `base` rows of the log stay, and these come after them. Where none stays, the rows are moved, not
-    /// copied. Rows that are executed already are not noted again in the clients' table. After an `Err` this may only be
-    /// dropped.
+    /// Keeps the first `base` rows of the log, and puts these behind them. With `base` 0 the rows are moved, not
+    /// copied. Rows that are executed already are not noted again in the clients' table. After an `Err` this may only
+    /// be dropped.
     pub fn take_rows(&mut self, base: usize, rows: RowsOf<M::Cmd>) -> Result<(), AllocError>
         requires base { base ≤ length self.old.log }
         requires few { base + length rows ≤ MAX_ROWS }
@@ -124,8 +125,8 @@ impl<M: Machine> Kept<M> {
         Ok(answers)
     }
 
-    /// Executes the rows up to this place, as far as the log goes, and keeps no answers: those of a backup are sent to
-    /// no one. After an `Err` this may only be dropped.
+    /// Executes the rows up to this place, as far as the log goes, and keeps no answers: a backup sends none. After an
+    /// `Err` this may only be dropped.
     pub fn advance(&mut self, upto: u16) -> Result<(), AllocError>
         requires { IsReady M.Machine self.old }
         ensures done { OnOk result (self.new.done ≡ max self.old.done
@@ -167,7 +168,7 @@ impl<M: Machine> Kept<M> {
     }
 }
 
-/// How many of the first rows of two lists are the same, as far as whole pages of them are, and at most so many.
+/// How many of the first rows of two lists are the same, counted in whole pages, and at most `most`.
 fn same_pages<M: Machine>(a: &Rows<M>, b: &Rows<M>, most: usize) -> usize
     ensures few { result ≤ most }
     ensures same { take result a.now ≡ take result b.now }

@@ -1,5 +1,5 @@
-//! What a running site keeps: its log, what it told its clients, its machine, and what it collects; and the outcomes
-//! that every rule of a site is made of.
+//! What a running site keeps: its log, its last answers to clients, its machine, and what it collects; and the
+//! outcomes that every rule of a site is made of.
 #![tactic(auto)]
 
 pub mod clients;

@@ -1,3 +1,4 @@
+//! The state of a running site.
 use crate::kept::Kept;
 use vr_types::{Known, Machine, RowsOf, Status};
 
@@ -6,7 +7,7 @@ use vr_types::{Known, Machine, RowsOf, Status};
 pub struct StartOf {
     /// The site that sent it.
     pub from: u16,
-    /// What that site knew of boots.
+    /// The boot numbers that this site knew.
     pub known: Known,
 }
 
@@ -18,7 +19,7 @@ pub struct VoteOf<C> {
     pub last_normal: u32,
     pub done: u16,
     pub log: RowsOf<C>,
-    /// What the site that votes knew of boots.
+    /// The boot numbers that the voter knew.
     pub known: Known,
 }
 
@@ -30,9 +31,9 @@ pub struct Running<M: Machine> {
     /// The last view in which the site was normal.
     pub last_normal: u32,
     pub kept: Kept<M>,
-    /// What the site knows of boots.
+    /// The boot numbers that the site knows.
     pub known: Known,
-    /// Of each site up to which place it acknowledged the log in this view.
+    /// For each site the place up to which it acknowledged the log in this view.
     pub acked: Vec<u16>,
     /// The first STARTVIEWCHANGE of each site, of this view.
     pub starts: Vec<StartOf>,

@@ -1,3 +1,4 @@
+//! The outcomes of a rule, and the messages that it sends.
 ghost use Rattle.std.specs.Prelude.{◌≡◌, ℕ, ◌*◌, ◌≤◌, ◌==◌, ◌++◌, ◌∷◌, [], map, IfOk, OnOk};
 ghost use Rattle.vr_types.specs.Site.{is_normal, is_change};
 ghost use Rattle.vr_types.specs.Group.{primary, actor_of, mail, to_all};
@@ -12,7 +13,7 @@ use vr_types::{
     ReplyOf, StartViewChange, Status, Why,
 };
 
-/// What a site tells all the others.
+/// What a site sends to all the others.
 #[derive(Clone, Copy)]
 pub enum News<C> {
     Prepare(PrepareOf<C>),
@@ -22,7 +23,7 @@ pub enum News<C> {
 }
 
 impl<C: Copy> News<C> {
-    /// The message that tells it.
+    /// The message that carries it.
     fn msg<R, O>(self) -> MsgOf<C, R, O>
         ensures { result ≡ news_msg self }
     {

@@ -1,3 +1,4 @@
+//! What a backup does with PREPARE and COMMIT.
 ghost use Rattle.std.specs.Prelude.{◌≡◌, ◌+◌, ◌==◌, ◌||◌, ◌++◌, ◌∷◌, [], nat_lt, length, IfOk, OnOk, if◌then◌else◌};
 ghost use Rattle.vr_types.specs.Group.{primary};
 ghost use Rattle.vr_types.specs.Normal.{on_prepare, on_commit, prepares};
@@ -16,7 +17,8 @@ use vr_types::{
     Commit, Config, GetState, Machine, MsgOf, Outcome, OutcomeOf, PrepareOf, Row, Status, Why,
 };
 
-/// PREPARE: the next row goes into the log, rows that are committed are executed, and the primary is told.
+/// PREPARE: the next row goes into the log, rows that are committed are executed, and the log is acknowledged to the
+/// primary.
 pub fn prepare<M: Machine>(
     alloc: Global,
     config: Config,
@@ -76,8 +78,8 @@ pub fn commit<M: Machine>(
     }
 }
 
-/// Takes the row where its place is the next one, executes what is committed, and acknowledges the log. Where a row
-/// before it is missing, the state is asked for in place of that.
+/// Puts the row into the log where its place is the next one, executes what is committed, and acknowledges the log.
+/// Where a row before it is missing, it asks for the state in place of the acknowledgement.
 fn take_row<M: Machine>(
     alloc: Global,
     config: Config,
@@ -119,8 +121,8 @@ fn append_next<M: Machine>(kept: &mut Kept<M>, place: u16, row: Row<M>) -> Resul
     Ok(())
 }
 
-/// Whether a message of a view has to do with more than the site knows: of a later view, or of the one that the site
-/// changes to.
+/// Whether a message of another view asks for a state transfer: the view is later than the site's, or the site is in
+/// change.
 fn lags(status: Status, view: u32, other: u32) -> bool
     ensures { result ≡ (nat_lt view other || is_change status) }
 {

@@ -1,3 +1,4 @@
+//! The beat of a normal site.
 ghost use Rattle.std.specs.Prelude.{◌≡◌, ◌++◌, OnOk, List, map, slice_get};
 ghost use Rattle.vr_types.specs.declared.cell.Boot.{Boot};
 ghost use Rattle.vr_types.specs.Handling.{order_to};
@@ -12,8 +13,8 @@ use vr_log::Running;
 use vr_log::send::{News, mail_to_client, primary_of, silent, tell_all};
 use vr_types::{Commit, Config, Envelope, Machine, MsgOf, Outcome, OutcomeOf, PrepareOf};
 
-/// Beat of a normal site: the primary tells its backups again what they may have missed, and each client that has an
-/// open order.
+/// Beat of a normal site: the primary sends its backups again what they may have missed, and sends each client its
+/// open orders. A backup sends nothing.
 pub fn beat<M: Machine>(
     alloc: Global,
     config: Config,
@@ -34,7 +35,7 @@ pub fn beat<M: Machine>(
     })
 }
 
-/// The first row that is not executed, or how many are.
+/// The first row that is not executed, or else how many rows are executed.
 fn news<M: Machine>(running: &Running<M>) -> News<M::Cmd>
     requires { IsReady M.Machine running.now.kept }
     ensures { (acks : List Ack) (cell : Boot) →

@@ -1,6 +1,6 @@
 //! Normal operation: what a running site does with REQUEST, PREPARE, PREPAREOK and COMMIT, and with a beat while it is
-//! normal. Each call is the case of the site step that has its name. Its `Err` is want of memory, and what runs may
-//! then only be dropped; an event that is dropped takes no memory.
+//! normal. Each call is the case of the site step that has its name. Its `Err` is lack of memory, after which the
+//! running state may only be dropped; an event that is dropped takes no memory.
 #![tactic(auto)]
 
 pub mod backup;

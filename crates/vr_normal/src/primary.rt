@@ -1,3 +1,4 @@
+//! What the primary of a view does with a client's REQUEST.
 ghost use Rattle.std.specs.Prelude.{◌≡◌, OnOk, take};
 ghost use Rattle.vr_types.specs.Normal.{on_request, appends, answers_again};
 ghost use Rattle.vr_types.specs.Rows.{newest, last_of};
@@ -11,7 +12,8 @@ use vr_types::{
     Config, MAX_ROWS, Machine, MsgOf, Outcome, OutcomeOf, PrepareOf, ReplyOf, Row, Why,
 };
 
-/// REQUEST: a client's new request goes into the log and to all backups, and its newest is answered again.
+/// REQUEST: a client's new request goes into the log and to all backups, and its newest is answered again if it is
+/// executed.
 pub fn request<M: Machine>(
     alloc: Global,
     config: Config,
@@ -38,7 +40,7 @@ pub fn request<M: Machine>(
     }
 }
 
-/// A new request goes at the log's end and to all, where there is room.
+/// A new request goes to the log's end and to all backups, where there is room.
 fn append<M: Machine>(
     alloc: Global,
     config: Config,

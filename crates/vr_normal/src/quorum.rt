@@ -1,3 +1,4 @@
+//! What the primary of a view does with a PREPAREOK.
 ghost use Rattle.std.specs.Prelude.{◌≡◌, ◌+◌, ◌*◌, ◌≤◌, IsTrue, OnOk, length};
 ghost use Rattle.vr_types.specs.Choice.{IsLargest};
 ghost use Rattle.vr_types.specs.Normal.{on_prepare_ok, with_ack};
@@ -11,7 +12,7 @@ use vr_log::Running;
 use vr_log::send::{dropped, primary_of, runs_normally, send_replies};
 use vr_types::{Config, Machine, Outcome, OutcomeOf, PrepareOk, Why};
 
-/// PREPAREOK: what f different other sites have acknowledged is executed, and its clients are answered.
+/// PREPAREOK: the rows that f different other sites have acknowledged are executed, and their clients are answered.
 pub fn prepare_ok<M: Machine>(
     alloc: Global,
     config: Config,
@@ -71,7 +72,8 @@ fn acknowledge<M: Machine>(
     })
 }
 
-/// The largest place that f different other sites have acknowledged: one of the places that a site named, or 0.
+/// The largest place that at least f different other sites have acknowledged: one of the places that a site named, or
+/// 0.
 fn commit_place(config: Config, acked: &[u16]) -> u16
     requires { length acked.now ≡ 2 * config.f + 1 }
     ensures { IsLargest (λ n. IsTrue (has_support config.f config.me acked.now n)) result }
@@ -85,7 +87,7 @@ fn commit_place(config: Config, acked: &[u16]) -> u16
     place
 }
 
-/// Whether f different other sites have acknowledged this place.
+/// Whether at least f different other sites have acknowledged this place.
 fn is_supported(config: Config, acked: &[u16], place: u16) -> bool
     requires { length acked.now ≡ 2 * config.f + 1 }
     ensures { result ≡ has_support config.f config.me acked.now place }

@@ -1,3 +1,4 @@
+//! What a running site answers to RECOVERY, and the RECOVERY that a recovering site sends.
 ghost use Rattle.std.specs.Prelude.{◌≡◌, ◌+◌, ◌*◌, ◌≤◌, length, List, IfOk, OnOk};
 ghost use Rattle.vr_types.specs.declared.cell.Boot.{Boot};
 ghost use Rattle.vr_types.specs.Group.{to_all};
@@ -13,9 +14,9 @@ use vr_types::{
     Config, Machine, MsgOf, Outcome, OutcomeOf, Recovery, RecoveryResponseOf, State, StateOf, Why,
 };
 
-/// RECOVERY at a running site: a normal one notes the boot of its sender and answers with its view and with what it
-/// knows, and the primary of the view with its log and its commit-number as well. One of an earlier boot than is known
-/// is dropped as `Stale`. After an `Err` the site may only be dropped.
+/// RECOVERY at a running site: a normal one notes the boot of its sender and answers with its view and the boot
+/// numbers that it knows; the primary of the view adds its log and its commit-number. A RECOVERY of an earlier boot
+/// than is known is dropped as `Stale`. After an `Err` the site may only be dropped.
 pub fn recovery<M: Machine>(
     alloc: Global,
     config: Config,
@@ -47,7 +48,7 @@ pub fn recovery<M: Machine>(
     sends_one(alloc, mail_to(config, from, response))
 }
 
-/// The state of a running site's view, which its primary alone has. The log is copied once.
+/// The state of a running site's view, which only its primary gives. The log is copied once.
 fn state_of_its_view<M: Machine>(
     alloc: Global,
     config: Config,
@@ -66,8 +67,8 @@ fn state_of_its_view<M: Machine>(
     }))
 }
 
-/// RECOVERY to all other sites, as a site says it at its restart and again at each beat while it recovers. The nonce is
-/// the count of its restarts.
+/// RECOVERY to all other sites, as a site sends it at its restart and again at each beat while it recovers. The nonce
+/// is the count of its restarts.
 pub fn ask_all<C: Copy + Drop, R: Drop, O: Drop>(
     alloc: Global,
     config: Config,

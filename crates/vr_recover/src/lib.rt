@@ -1,6 +1,6 @@
-//! Recovery: what a site keeps that came up again and asks for the state, how it regains one, and what a running site
-//! answers it. Each call is the case of the site step that has its name. Its `Err` is want of memory; an event that is
-//! dropped takes no memory.
+//! Recovery: what a site keeps while it asks for the state after a restart, how it regains one, and what a running
+//! site answers it. Each call is the case of the site step that has its name. Its `Err` is lack of memory; an event
+//! that is dropped takes no memory.
 #![tactic(auto)]
 
 pub mod answering;

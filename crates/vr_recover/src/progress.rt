@@ -1,3 +1,4 @@
+//! What a recovering site does with a RECOVERYRESPONSE.
 ghost use Rattle.std.specs.Prelude.{◌≡◌, ◌+◌, ◌*◌, length, List, IfOk};
 ghost use Rattle.vr_types.specs.Choice.{Choice, IsRight};
 ghost use Rattle.vr_types.specs.Recovery.{on_recovery_response, regains};
@@ -11,22 +12,22 @@ use std::alloc::{AllocError, Global};
 use vr_log::Running;
 use vr_types::{Boot, Config, Machine, Why};
 
-/// What came of a response.
+/// The result of a response.
 #[derive(Drop)]
 pub enum Progress<M: Machine> {
     /// It was dropped, and nothing changed.
     Dropped(Why),
-    /// It is kept, and the site recovers still.
+    /// It is kept, and the site is still recovering.
     Waits,
     /// The state is regained: the site is normal.
     Regained(Running<M>),
 }
 
-/// RECOVERYRESPONSE at a recovering site, whose cell holds `boot`: what its sender knew of boots is learnt, the responses
-/// that this shows to be of an earlier boot are given up, the response is kept, and where the state is regained by it
-/// the site is normal with that. A response to an earlier recovery, or of an earlier boot of its sender than is known,
-/// is dropped as `Stale`, and one of a site whose response of that view or of a later one is kept as `Known`. After an
-/// `Err` the site may only be dropped.
+/// RECOVERYRESPONSE at a recovering site, whose cell holds `boot`: the site learns the boot numbers that the sender
+/// knew, gives up the responses that these show to be of an earlier boot, and keeps the response. If this regains the
+/// state, the site is normal with it. A response to another recovery of the site, or of an earlier boot of its sender
+/// than is known, is dropped as `Stale`; it is dropped as `Known` where a response of the same site, of that view or a
+/// later one, is kept. After an `Err` the site may only be dropped.
 pub fn take_response<M: Machine>(
     alloc: Global,
     config: Config,
@@ -60,7 +61,7 @@ pub fn take_response<M: Machine>(
     regain_where_due(alloc, config, setup, boot, recovering)
 }
 
-/// Regains the state, where one is regained by what is kept.
+/// Regains the state, where the kept responses give one.
 fn regain_where_due<M: Machine>(
     alloc: Global,
     config: Config,

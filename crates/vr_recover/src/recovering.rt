@@ -1,3 +1,4 @@
+//! What a recovering site keeps: the responses to its RECOVERY, and the state that they give.
 ghost use Rattle.std.specs.Prelude.{◌≡◌, ◌<◌, ◌≤◌, ◌==◌, ◌&&◌, ◌++◌, ◌∷◌, [], ℕ, not, nat_le, nat_lt, filter, length, All, count_by, IfOk, IfSome, IfNone, OnOk, Some};
 ghost use Rattle.std.specs.List.{list_any, position};
 ghost use Rattle.vr_types.specs.Choice.{Regained, IsRegained};
@@ -10,8 +11,8 @@ use std::alloc::{AllocError, Global};
 use vr_log::send::primary_of;
 use vr_types::{Boot, Config, Known, Machine, StateOf};
 
-/// A response that a recovering site keeps: its sender, that site's view, the state of the view where its primary
-/// answered, and what the sender knew of boots.
+/// A response that a recovering site keeps: its sender, the sender's view, the state of that view if the sender is its
+/// primary, and the boot numbers that the sender knew.
 #[derive(Drop)]
 pub struct ResponseOf<C> {
     pub from: u16,
@@ -20,7 +21,7 @@ pub struct ResponseOf<C> {
     pub known: Known,
 }
 
-/// What a recovering site keeps: what it knows of boots, and of each site the response of its greatest view.
+/// What a recovering site keeps: the boot numbers that it knows, and for each site its response of the greatest view.
 #[derive(Drop)]
 pub struct RecoveringOf<C> {
     pub known: Known,
@@ -30,8 +31,8 @@ pub struct RecoveringOf<C> {
 /// What a machine's recovering site keeps.
 pub type Recovering<M> = RecoveringOf<<M as Machine>::Cmd>;
 
-/// What a site keeps right after a restart that saved this cell: of boots it knows its own alone, and no response has
-/// come.
+/// What a site keeps right after a restart that saved this cell: the only boot number that it knows is its own, and no
+/// response has come.
 pub fn restarted<C: Drop>(alloc: Global, config: Config, boot: Boot) -> RecoveringOf<C>
     ensures sound { IsSoundRecovering config.f result }
     ensures site { recovering_site result [] boot ≡ restarted config.f config.me boot }
@@ -44,8 +45,8 @@ pub fn restarted<C: Drop>(alloc: Global, config: Config, boot: Boot) -> Recoveri
     }
 }
 
-/// Whether a response of the new one's sender is kept that is of its view or a later one, and that the new one does not
-/// show to be of an earlier boot.
+/// Whether a response of the same sender is kept, of the new one's view or a later one, that the new one does not show
+/// to be of an earlier boot.
 pub(crate) fn has_as_late<C: Drop>(kept: &[ResponseOf<C>], new: &ResponseOf<C>) -> bool
     ensures { result ≡ list_any (λ old. (old.from == new.now.from) && nat_le new.now.view old.view
         && not (is_outdated new.now.known old.from old.known)) kept.now }
@@ -55,7 +56,7 @@ pub(crate) fn has_as_late<C: Drop>(kept: &[ResponseOf<C>], new: &ResponseOf<C>) 
     })
 }
 
-/// Learns what a sender knew, and gives up each response that is outdated by it.
+/// Learns what a sender knew, and gives up each response that this shows to be outdated.
 pub(crate) fn learn<C: Drop>(recovering: &mut RecoveringOf<C>, told: &Known)
     requires { length told.now ≤ length recovering.old.known }
     ensures known { recovering.new.known ≡ greater recovering.old.known told.now }
@@ -101,7 +102,7 @@ fn senders<C: Drop>(config: Config, kept: &[ResponseOf<C>]) -> usize
         .count()
 }
 
-/// The greatest view of the responses, 0 of none.
+/// The greatest view of the responses; 0 if there are none.
 fn greatest_view<C: Drop>(kept: &[ResponseOf<C>]) -> u32
     ensures above { All (λ response. response.view ≤ result) kept.now }
     ensures least { (view : ℕ) → All (λ response. response.view ≤ view) kept.now → result ≤ view }
@@ -122,8 +123,8 @@ fn place_of<C: Drop>(kept: &[ResponseOf<C>], from: u16, view: u32) -> Option<usi
         .position(|response| response.from == from && response.view == view)
 }
 
-/// The view whose state is regained, once its primary has answered with it: the greatest of the responses, where more
-/// than f sites have responded.
+/// The view whose state is regained once its primary has answered with it: the greatest view of the responses, where
+/// more than f sites have responded.
 fn regained_view<C: Drop>(config: Config, kept: &[ResponseOf<C>]) -> Option<u32>
     ensures enough { IfSome result (λ view. config.f < count_by
         (has_response (responses_of kept.now)) (sites config.f)) }
@@ -137,7 +138,7 @@ fn regained_view<C: Drop>(config: Config, kept: &[ResponseOf<C>]) -> Option<u32>
     Some(greatest_view(kept))
 }
 
-/// Takes the state that is regained out of the responses, with its view, where one is.
+/// Takes the regained state, with its view, out of the responses, where there is one.
 pub(crate) fn take_regained<C: Drop>(
     config: Config,
     kept: &mut Vec<ResponseOf<C>>,

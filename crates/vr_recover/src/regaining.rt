@@ -1,3 +1,4 @@
+//! How a site becomes normal with the state that it regained.
 ghost use Rattle.std.specs.Prelude.{◌≡◌, ◌+◌, ◌*◌, [], length, List, IfOk};
 ghost use Rattle.vr_types.specs.declared.cell.Boot.{Boot};
 ghost use Rattle.vr_types.specs.Site.{Ack};
@@ -12,7 +13,7 @@ use vr_log::{ClientsOf, Kept, Running};
 use vr_types::{Config, Known, Machine, RowsOf, StateOf, Status};
 
 /// A site that is normal in a view with the state of its primary: a fresh machine executes as far as the primary had,
-/// and nobody is answered. What it knows of boots stays. The log is moved, not copied.
+/// and no client is answered. The boot numbers that it knows stay. The log is moved, not copied.
 pub fn regain<M: Machine>(
     alloc: Global,
     config: Config,

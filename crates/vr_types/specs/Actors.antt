@@ -12,7 +12,7 @@ id_of number =
     else if nat_le FIRST_NODE number then Node (number - FIRST_NODE)
     else Client number
 
--- the number of an actor, which is 16 bits wide
+-- the number of an actor, at most the greatest of 16 bits
 abbrev pub number_of : ActorId → ℕ
 number_of (Client client) = client
 number_of (Node ccy) = min (FIRST_NODE + ccy) (2 ^ 16 - 1)

@@ -3,19 +3,19 @@ use Rattle.std.specs.Prelude.{◌≡◌, ℕ, ◌-◌, ◌≤◌, ◌++◌, List
 use Rattle.std.proofs.Common.{sym, ap, ◌∙◌, subst, take-append-drop, length-take-le}
 use Rattle.vr_types.specs.declared.limits.TheConstants.{MOST_SITES}
 
--- the first so many are of sites, and the others are 0
+-- the first `sites` numbers are those of sites, and the others are 0
 pub record AreBoots (boots : List ℕ) (sites : ℕ) : Type 0 where
   pub places : length boots ≡ MOST_SITES
   pub most : sites ≤ MOST_SITES
   pub rest : drop sites boots ≡ replicate (MOST_SITES - sites) 0
 
--- so many sites are told of
+-- the list has as many boot numbers as there are sites
 pub sites_back : (boots : List ℕ) (sites : ℕ) → AreBoots boots sites
     → length (take sites boots) ≡ sites
 sites_back boots sites are =
     length-take-le sites boots (subst (λ n. sites ≤ n) (sym are.places) are.most)
 
--- the array is what is told, and zeros
+-- the array is the list, and zeros behind it
 pub boots_back : (boots : List ℕ) (sites : ℕ) → AreBoots boots sites
     → take sites boots ++ replicate (MOST_SITES - length (take sites boots)) 0 ≡ boots
 boots_back boots sites are =

@@ -12,13 +12,13 @@ use Rattle.vr_types.specs.Site.{Site, Start, Vote, nothing, is_normal, is_change
 use Rattle.vr_types.specs.Choice.{Choice}
 use Rattle.vr_types.specs.Step.{Step, does, drops, is_outdated, learns, normal_in, begins_with_executed, takes_log, executes_and_answers}
 
--- a site in the middle of a rule, and what it sends to sites by then
+-- a site in the middle of a rule, and what it has sent to sites so far
 pub record Part (C R O : Type 0) : Type 0 where
   pub site : Site C
   pub sent : List (EnvelopeOf C R O)
 
--- The site takes part in the change to view w (step 1). It gives up what it collected, and tells all. Its log, what it
--- executed, its last normal view and what it knows stay.
+-- The site takes part in the change to view w (step 1). It gives up what it collected, and sends STARTVIEWCHANGE to
+-- all others. Its log, what it executed, its last normal view and what it knows stay.
 abbrev pub starts_view : {C R O : Type 0} → ℕ → ℕ → ℕ → Site C → Part C R O
 starts_view f me w x = record {
   site = record x { status = Change; view = w; collected = nothing };
@@ -63,11 +63,12 @@ own_vote me x = record { from = me; last_normal = x.last_normal; done = x.done; 
 abbrev pub sends_vote : {C R O : Type 0} → ℕ → ℕ → Site C → List (EnvelopeOf C R O)
 sends_vote f me x = mail me (primary f x.view) (DoViewChange (ballot x.view (own_vote me x))) ∷ []
 
--- f different others have sent STARTVIEWCHANGE, and its own DOVIEWCHANGE isn't made yet
+-- at least f different others have sent STARTVIEWCHANGE, and its own DOVIEWCHANGE is not made yet
 abbrev pub is_to_vote : {C : Type 0} → ℕ → ℕ → Site C → Bool
 is_to_vote f me x = nat_le f (count_by (has_start x.collected.starts) (others f me)) && not x.collected.voted
 
--- The site's own DOVIEWCHANGE (step 2): it goes to the primary of the view, or is kept here where this site is that.
+-- The site's own DOVIEWCHANGE (step 2): it goes to the primary of the view, or is kept here if this site is that
+-- primary.
 abbrev pub votes_where_due : {C R O : Type 0} → ℕ → ℕ → Part C R O → Part C R O
 votes_where_due f me part =
     let x = part.site in
@@ -75,14 +76,15 @@ votes_where_due f me part =
     else if primary f x.view == me then record { site = with_vote (own_vote me x) (with_voted x); sent = part.sent }
     else record { site = with_voted x; sent = part.sent ++ sends_vote f me x }
 
--- the primary of a view that changes has the DOVIEWCHANGEs of f+1 different sites, its own among them
+-- this site is the primary of the view that it changes to, and has the DOVIEWCHANGEs of at least f+1 different sites,
+-- its own among them
 abbrev pub is_to_open : {C : Type 0} → ℕ → ℕ → Site C → Bool
 is_to_open f me x =
     is_change x.status && ((primary f x.view == me)
     && (has_vote x.collected.votes me && nat_lt f (count_by (has_vote x.collected.votes) (sites f))))
 
 -- The view is opened with the picked log (steps 3 and 4): the site is normal in it, executes to the largest
--- commit-number, and tells all; then the clients are answered.
+-- commit-number, and sends STARTVIEW to all others; then the clients are answered.
 abbrev pub opened_with : {C R O : Type 0} → ℕ → ℕ → List (RowOf C) → ℕ → Part C R O → Step C R O
 opened_with {C} {R} {O} f me log k part =
     let opened = executes_and_answers {R = R} {O = O} k (normal_in part.site.view log part.site) in
@@ -91,8 +93,8 @@ opened_with {C} {R} {O} f me log k part =
           (StartView (record { view = opened.site.view; done = opened.site.done; rows = opened.site.log }));
     }
 
--- Where the view can be opened, it is. This project's own: a picked log that does not begin with what the site executed
--- is dropped with its message; x is the site as the message found it.
+-- The view is opened where it can be. This project's own: if the picked log does not begin with what the site
+-- executed, the message is dropped; x is the site as the message found it.
 abbrev pub opens_where_due : {C R O : Type 0} → Choice C → ℕ → ℕ → Site C → Part C R O → Step C R O
 opens_where_due choose f me x part =
     let votes = part.site.collected.votes in
@@ -101,14 +103,14 @@ opens_where_due choose f me x part =
     else if not (begins_with_executed choose.same part.site log) then drops x Stale
     else opened_with f me log (choose.most_done votes) part
 
--- The site as it decides whether the view opens, after a STARTVIEWCHANGE: what its sender knew is learnt, the view is
--- started where it is later, the message is kept, and the site votes where that is due.
+-- The site at the point where it decides whether the view opens, after a STARTVIEWCHANGE: it has learnt what the
+-- sender knew, started the view if that is later, kept the message, and voted where that is due.
 abbrev pub after_start : {C R O : Type 0} → ℕ → ℕ → ℕ → Start → Site C → Part C R O
 after_start f me w start x =
     let started = starts_later_view f me w (learns start.known x) in
     votes_where_due f me (record started { site = with_start start started.site })
 
--- the same after a DOVIEWCHANGE
+-- the same after a DOVIEWCHANGE, at which the site does not vote
 abbrev pub after_vote : {C R O : Type 0} → ℕ → ℕ → ℕ → Vote C → Site C → Part C R O
 after_vote f me w vote x =
     let started = starts_later_view f me w (learns vote.known x) in
@@ -143,13 +145,13 @@ on_start_view choose f me x from msg =
     else if is_normal x.status && (msg.view == x.view) then drops x Known
     else takes_log choose f me x msg.view msg.done msg.rows
 
--- Timer (step 1): the next view is started. A view at its greatest is refused before.
+-- Timer (step 1): the next view is started. At the greatest view the event was refused before.
 unfoldable pub on_timer : {C R O : Type 0} → ℕ → ℕ → Site C → Step C R O
 on_timer f me x =
     if is_recovering x.status then drops x Status
     else (let started = starts_view f me (x.view + 1) x in does started.site started.sent)
 
--- Beat of a site in change: it says again what it has said of its view.
+-- Beat of a site in change: it sends again what it has sent for its view.
 unfoldable pub beats_in_change : {C R O : Type 0} → ℕ → ℕ → Site C → Step C R O
 beats_in_change f me x =
     does x (to_all f me (StartViewChange (record { view = x.view; known = x.known }))

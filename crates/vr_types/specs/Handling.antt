@@ -1,4 +1,4 @@
--- The step of a site, whole: what it does with any event.
+-- The complete step of a site: what it does with any event.
 use Rattle.std.specs.Prelude.{◌≡◌, ℕ, ◌-◌, ◌==◌, ◌&&◌, ◌⊎◌, ◌++◌, Bool, true, false, not, List, [], map, slice_get, filter_map, Option, Some, None, option_map, if◌then◌else◌}
 use Rattle.vr_types.specs.declared.event.EventOf.{EventOf}
 use Rattle.vr_types.specs.declared.event.EventOf.TheVariants.{Deliver, Timer, Beat, Crash, Restart}
@@ -22,7 +22,7 @@ use Rattle.vr_types.specs.Change.{Part, vote_of, after_start, after_vote, on_sta
 use Rattle.vr_types.specs.Transfer.{on_get_state, on_new_state}
 use Rattle.vr_types.specs.Recovery.{response_of, after_response, on_recovery, on_recovery_response, beats_recovering, on_crash, on_restart}
 
--- why an event is refused, which comes before all else
+-- why an event is refused; this is tested before all else
 abbrev pub refusal : {C R O : Type 0} → ℕ → ℕ → Site C → EventOf C R O → Option SiteFault
 refusal f me x (Deliver envelope) =
     if is_down x.status then Some NotUp
@@ -39,7 +39,8 @@ refusal f me x Restart =
     else if is_spent x.cell then Some BootsSpent
     else None
 
--- a message of an actor that may send it; to the rules a client is its actor's number, and a site its own
+-- a message of an actor that may send it; in the rules a client has its actor number, and a site its number among the
+-- sites
 abbrev pub on_message : {C R O : Type 0} → Choice C → ℕ → ℕ → Site C → ℕ → MsgOf C R O → Step C R O
 on_message choose f me x actor (Request msg) =
     on_request f me x (record { client = actor; number = msg.number; cmd = msg.cmd })
@@ -59,7 +60,7 @@ on_message choose f me x actor (RecoveryResponse msg) =
 on_message choose f me x actor (Reply msg) = refuses x NotMine
 on_message choose f me x actor (PayOrder order) = refuses x NotMine
 
--- the DOVIEWCHANGEs by which a message decides whether a view opens: none where it opens none
+-- the DOVIEWCHANGEs by which a message decides whether a view opens: none for a message that opens none
 abbrev pub votes_used : {C R O : Type 0} → ℕ → ℕ → Site C → ℕ → MsgOf C R O → List (Vote C)
 votes_used {C} {R} {O} f me x actor (StartViewChange msg) =
     let part : Part C R O = after_start f me msg.view (record { from = site_of actor; known = msg.known }) x in
@@ -68,7 +69,7 @@ votes_used {C} {R} {O} f me x actor (DoViewChange msg) =
     let part : Part C R O = after_vote f me msg.view (vote_of (site_of actor) msg) x in part.site.collected.votes
 votes_used f me x actor _ = []
 
--- the responses by which a message decides whether a state is regained: none where it regains none
+-- the responses by which a message decides whether a state is regained: none for a message that regains none
 abbrev pub responses_used : {C R O : Type 0} → Site C → ℕ → MsgOf C R O → List (Response C)
 responses_used x actor (RecoveryResponse msg) = (after_response (response_of (site_of actor) msg) x).collected.responses
 responses_used x actor _ = []
@@ -107,8 +108,8 @@ dropped_as Handled = None
 dropped_as (Dropped why) = Some why
 dropped_as (Refused fault) = None
 
--- A fall in place of a step that is not refused: nothing is sent, and the site is down over a cell that is old or as
--- the step saves it.
+-- A fall in place of a step that is not refused: nothing is sent, and the site is down, over the old cell or the cell
+-- as the step saves it.
 pub record IsFall {C R O : Type 0} (x : Site C) (step : Step C R O) (y : Site C) : Type 0 where
   pub allowed : is_refused step.ending ≡ false
   pub down : (y ≡ over x.cell Down) ⊎ (y ≡ over step.site.cell Down)
@@ -117,7 +118,7 @@ pub record IsFall {C R O : Type 0} (x : Site C) (step : Step C R O) (y : Site C)
 abbrev pub machine_of : {H C R O S : Type 0} → Ghosts H C R O S → H → Site C → H
 machine_of m start x = held_after m start (executed_rows x)
 
--- REPLY of the site's view to the client of the row at a place
+-- the REPLY, in the site's view, to the client of the row at a place
 abbrev pub reply_to : {H C R O S : Type 0} → Ghosts H C R O S → H → ℕ → Site C → ℕ → Option (EnvelopeOf C R O)
 reply_to m start me x place =
     option_map
@@ -128,11 +129,11 @@ reply_to m start me x place =
     })
     (slice_get x.log (place - 1))
 
--- PAYORDER of an open order to its client
+-- the PAYORDER for an open order, to its client
 abbrev pub order_to : {C R O : Type 0} → ℕ → ℕ × O → EnvelopeOf C R O
 order_to me due = record { from = actor_of me; to = due.0; msg = PayOrder due.1 }
 
--- the envelopes of a step, in order: to sites, the answers, the open orders
+-- the envelopes of a step, in order: those to sites, the replies, the open orders
 abbrev pub envelopes : {H C R O S : Type 0} → Ghosts H C R O S → H → ℕ → Step C R O → List (EnvelopeOf C R O)
 envelopes m start me step =
     step.sent

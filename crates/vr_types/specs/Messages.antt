@@ -23,14 +23,14 @@ rows_in (NewState msg) = msg.rows
 rows_in (RecoveryResponse msg) = rows_of_state msg.state
 rows_in _ = []
 
--- what its sender knew of boots, where a message tells it
+-- the boot numbers that its sender knew, where the message carries them
 abbrev pub known_in : {C R O : Type 0} → MsgOf C R O → Option (List ℕ)
 known_in (StartViewChange msg) = Some msg.known
 known_in (DoViewChange msg) = Some msg.known
 known_in (RecoveryResponse msg) = Some msg.known
 known_in _ = None
 
--- the nonce with which a site asks for the state, where a message asks for it
+-- the nonce with which a RECOVERY asks for the state; None for any other message
 abbrev pub asked_nonce : {C R O : Type 0} → MsgOf C R O → Option ℕ
 asked_nonce (Recovery msg) = Some msg.nonce
 asked_nonce _ = None

@@ -15,11 +15,11 @@ use Rattle.vr_types.specs.Site.{Site, Response, over, restarted, boot_of, is_nor
 use Rattle.vr_types.specs.Choice.{Choice, Regained}
 use Rattle.vr_types.specs.Step.{Step, does, drops, is_outdated, learns, executed_to, normal_in}
 
--- what the site knows of its view: the primary alone has its state
+-- the state of its view that a site gives: only the primary gives its log and commit-number
 abbrev pub state_of_view : {C : Type 0} → ℕ → ℕ → Site C → Option (StateOf C)
 state_of_view f me x = if primary f x.view == me then Some (record { done = x.done; rows = x.log }) else None
 
--- the boot number of a site is known
+-- the boot number of a site is noted
 abbrev pub notes : {C : Type 0} → ℕ → ℕ → Site C → Site C
 notes from boot x = record x { known = slice_set x.known from boot }
 
@@ -42,7 +42,7 @@ response_of from msg = record { from = from; view = msg.view; state = msg.state;
 abbrev pub has_as_late : {C : Type 0} → List (Response C) → Response C → Bool
 has_as_late responses new = list_any (λ old. (old.from == new.from) && nat_le new.view old.view) responses
 
--- the response is kept, and none else of its sender
+-- the response is kept in place of any other of its sender
 abbrev pub with_response : {C : Type 0} → Response C → Site C → Site C
 with_response new x =
     record x {
@@ -52,13 +52,14 @@ with_response new x =
       };
     }
 
--- the state is regained, where one is: a fresh machine executes as far as the primary had; nobody is answered
+-- the state is regained, where one is: a fresh machine executes as far as the primary had; no client is answered
 abbrev pub regains : {C R O : Type 0} → Site C → Option (Regained C) → Step C R O
 regains x None = does x []
 regains x (Some regained) =
     does (executed_to regained.state.done (normal_in regained.view regained.state.rows x)) []
 
--- The site as it decides whether a state is regained: what the sender knew is learnt, and its response is kept.
+-- The site at the point where it decides whether a state is regained: it has learnt what the sender knew, and kept its
+-- response.
 abbrev pub after_response : {C : Type 0} → Response C → Site C → Site C
 after_response response x = with_response response (learns response.known x)
 
@@ -79,8 +80,8 @@ beats_recovering f me x = does x (to_all f me (Recovery (record { nonce = nonce_
 abbrev pub on_crash : {C R O : Type 0} → Site C → Step C R O
 on_crash x = does (over x.cell Down) []
 
--- Restart of a site that is down (step 1): the count of restarts is raised and saved, and all are asked. A count at its
--- greatest is refused before.
+-- Restart of a site that is down (step 1): the count of restarts is raised and saved, and all others are asked. At the
+-- greatest count the event was refused before.
 unfoldable pub on_restart : {C R O : Type 0} → ℕ → ℕ → Site C → Step C R O
 on_restart f me x =
     let cell = raised x.cell in does (restarted f me cell) (to_all f me (Recovery (record { nonce = nonce_of cell })))

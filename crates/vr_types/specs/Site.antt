@@ -1,4 +1,4 @@
--- A site: what it is, apart from how it is kept. The machine is no part of it, as it is what the executed rows lead to.
+-- The state of a site, apart from how it is stored. The machine is no part of it, as the executed rows determine it.
 use Rattle.std.specs.Prelude.{ℕ, ◌+◌, ◌*◌, ◌==◌, Bool, true, false, List, [], replicate, take, get_or, slice_set, Option, if◌then◌else◌}
 use Rattle.std.specs.List.{list_any}
 use Rattle.vr_types.specs.declared.cell.Boot.{Boot}
@@ -80,7 +80,7 @@ no_boots f = replicate (2 * f + 1) 0
 abbrev pub opening_site : {C : Type 0} → ℕ → Boot → Site C
 opening_site f cell = if is_new cell then record (over cell Normal) { known = no_boots f } else over cell Down
 
--- a site after a restart, over the cell that the restart saved: of boots it knows its own alone
+-- a site after a restart, over the cell that the restart saved: the only boot number that it knows is its own
 abbrev pub restarted : {C : Type 0} → ℕ → ℕ → Boot → Site C
 restarted f me cell = record (over cell Recovering) { known = slice_set (no_boots f) me (nonce_of cell) }
 

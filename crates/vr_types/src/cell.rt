@@ -1,3 +1,4 @@
+//! The boot cell of a site, which outlives a crash, and one in memory that can be made to fail.
 ghost use Rattle.std.specs.Prelude.{◌≡◌, ℕ, ◌-◌, ◌⊎◌, ◌==◌, if◌then◌else◌, OnOk, OnErr, IsOk, IsErr, IsTrue, ◌↔◌, Some, None};
 ghost use Rattle.vr_types.specs.declared.cell.Boot.{Boot};
 ghost use Rattle.vr_types.specs.Cell.{HasRisen, new_cell};
@@ -12,7 +13,7 @@ pub struct Boot {
 impl Boot {
     ghost use Rattle.vr_types.specs.Cell.{is_new, raised, is_spent};
 
-    /// What a cell holds that was never saved.
+    /// The value of a cell that was never saved.
     pub fn new() -> Self
         ensures { result ≡ new_cell }
     {
@@ -26,7 +27,7 @@ impl Boot {
         self.boots == 0
     }
 
-    /// What a restart saves; `None` where as many restarts are counted as can be.
+    /// What a restart saves; `None` where the count of restarts is at its greatest.
     pub fn raised(self) -> Option<Self>
         ensures { result ≡ (if is_spent self then None else Some (raised self)) }
     {
@@ -39,7 +40,7 @@ impl Boot {
 #[derive(Clone, Copy, Debug, PartialEq, Eq)]
 pub struct CellFault;
 
-/// A cell that outlives a crash.
+/// A cell that outlives a crash. A save that fails may leave the old value or the new one.
 pub trait BootCell: Drop {
     /// What the cell holds.
     ghost held: { Self → Boot };
@@ -53,10 +54,11 @@ pub trait BootCell: Drop {
     /// Holds of a cell, a value, and what one save of the value, failed or not, leaves of the cell.
     ghost saves: { Self → Boot → Self → Type 0 };
 
+    /// What the cell holds.
     fn load(&self) -> Boot
         ensures { result ≡ held self.now };
 
-    /// A save that fails leaves the old value or the new one.
+    /// Saves a value. An `Err` leaves the old value or the new one.
     fn save(&mut self, boot: Boot) -> Result<(), CellFault>
         ensures ok { OnOk result (held self.new ≡ boot) }
         ensures err { OnErr result ((held self.new ≡ held self.old) ⊎ (held self.new ≡ boot)) }
@@ -74,7 +76,7 @@ pub trait BootCell: Drop {
 #[derive(Drop)]
 pub struct MemCell {
     boot: Boot,
-    /// Where a save is left to fail, how many come before it.
+    /// How many saves succeed before the one that is to fail; `None` where none is to fail.
     before_fault: Option<u64>,
     /// Whether the save that fails leaves the new value.
     keeps: bool,
@@ -91,7 +93,7 @@ impl MemCell {
         MemCell::failing(0, false)
     }
 
-    /// A cell that holds this already, and no save of which fails.
+    /// A cell that already holds this value, and no save of which fails.
     pub fn of(boot: Boot) -> Self
         ensures held { held_by result ≡ boot }
         ensures reliable { IsReliable result }
@@ -105,8 +107,8 @@ impl MemCell {
         }
     }
 
-    /// A cell of which the save of this number fails, counted from 1, and no other: at 0 none does. The save that
-    /// fails leaves the new value where `keep`.
+    /// A cell of which only the save of this number fails, counted from 1; at 0 none does. The failed save leaves the
+    /// new value if `keep` is true, else the old one.
     pub fn failing(at: u64, keep: bool) -> Self
         ensures held { held_by result ≡ new_cell }
         ensures before_fault { saves_before_fault result

@@ -1,3 +1,4 @@
+//! The boot numbers that a site knows of the sites of its group.
 ghost use Rattle.std.specs.Prelude.{◌≡◌, ◌<◌, ◌≤◌, ◌==◌, ◌++◌, ◌∷◌, [], length, slice_set};
 ghost use Rattle.vr_types.specs.declared.limits.TheConstants.{MOST_SITES};
 ghost use Rattle.vr_types.specs.Site.{boot_of, no_boots};
@@ -9,8 +10,8 @@ use std::marker::Model;
 /// How many boot numbers there is room for.
 const PLACES: usize = MOST_SITES as usize;
 
-/// Of each site the greatest boot number that is known, in order of the sites: 0 where none is. In clauses it is their
-/// list. It lies in the value itself, so none of its calls takes memory.
+/// For each site, in order, the greatest boot number that is known; 0 where none is. In clauses it is the list of
+/// these. The value lies in place, so none of its calls takes memory.
 #[derive(Clone, Copy)]
 pub struct Known {
     boots: [u32; PLACES],
@@ -42,7 +43,7 @@ impl Model for Known {
 impl Known {
     ghost use Rattle.vr_types.specs.Step.{is_outdated};
 
-    /// Of no sites at all.
+    /// The list of no sites at all.
     pub fn new() -> Self
         ensures { result ≡ [] }
     {
@@ -52,7 +53,7 @@ impl Known {
         }
     }
 
-    /// Of 2f+1 sites, of none of which a boot is known.
+    /// The list of 2f+1 sites, of none of which a boot number is known.
     pub fn of_none(f: u16) -> Self
         requires { f ≤ 3 }
         ensures { result ≡ no_boots f }
@@ -63,7 +64,7 @@ impl Known {
         }
     }
 
-    /// How many sites it tells of: seven at most.
+    /// For how many sites it has a place: seven at most.
     pub fn len(&self) -> usize
         ensures is { result ≡ length self.now }
         ensures most { result ≤ MOST_SITES }
@@ -71,14 +72,14 @@ impl Known {
         usize::from(self.sites)
     }
 
-    /// Whether it tells of no site.
+    /// Whether it has no site.
     pub fn is_empty(&self) -> bool
         ensures { result ≡ (length self.now == 0) }
     {
         self.sites == 0
     }
 
-    /// The boot number of a site: 0 where none is known, also of a site that is not told of.
+    /// The boot number of a site; 0 where none is known, or where the list has no such site.
     pub fn get(&self, site: u16) -> u32
         ensures { result ≡ boot_of self.now site }
     {
@@ -92,7 +93,7 @@ impl Known {
         &self.boots[..self.len()]
     }
 
-    /// Tells of one site more.
+    /// Adds one more site at the end, with its boot number.
     pub fn push(&mut self, boot: u32)
         requires { length self.old < MOST_SITES }
         ensures { self.new ≡ self.old ++ boot ∷ [] }
@@ -101,7 +102,7 @@ impl Known {
         self.sites += 1;
     }
 
-    /// Notes the boot number of a site, whatever was known of it.
+    /// Sets the boot number of a site, whatever was known of it.
     pub fn note(&mut self, site: u16, boot: u32)
         requires { site < length self.old }
         ensures { self.new ≡ slice_set self.old site boot }
@@ -109,7 +110,7 @@ impl Known {
         self.boots[usize::from(site)] = boot;
     }
 
-    /// Takes over what a sender knew, where that is greater.
+    /// Takes each boot number of a sender that is greater than the one known here.
     pub fn learn(&mut self, told: &Known)
         requires { length told.now ≤ length self.old }
         ensures { self.new ≡ greater self.old told.now }
@@ -119,7 +120,8 @@ impl Known {
         }
     }
 
-    /// Whether a message of this sender, which knew this, is of an earlier boot of it than is known.
+    /// Whether a message of this sender, which then knew these boot numbers, is of an earlier boot of it than is known
+    /// here.
     pub fn is_outdated(&self, from: u16, told: &Known) -> bool
         ensures { result ≡ is_outdated self.now from told.now }
     {

@@ -9,7 +9,7 @@ ghost use Rattle.vr_types.specs.Saved.{IsSavedFor};
 
 use crate::machine::Machine;
 
-/// The choices that a step takes as given can be made, wherever commands can be told apart.
+/// The choices that a step takes as given can be made, wherever it can be decided whether two commands are the same.
 pub fn choices_exist<C>()
     ensures { (f : ℕ) (same : C → C → Bool) → 1 ≤ f → ((a b : C) → IsTrue (same a b) ↔ (a ≡ b)) →
         (choose : Choice C) × IsRight f choose }

@@ -1,3 +1,4 @@
+//! The pages on which the rows of a log lie.
 ghost use Rattle.std.specs.Prelude.{◌≡◌, ◌≢◌, ◌+◌, ◌-◌, ◌*◌, ◌==◌, ◌<◌, ◌≤◌, ◌%◌, ◌++◌, ◌∷◌, [], Some, slice_get, slice_range, IfOk, IsOk, OnOk, OnErr, length, take, drop, option_map, vec_capacity};
 ghost use Rattle.vr_types.specs.Pages.{page_of, page_rows};
 
@@ -8,8 +9,8 @@ use std::marker::Model;
 use std::mem;
 use std::sync::Arc;
 
-/// Rows of a log, at most 65,535, on pages of 64, of which the room of each is made at once. All pages but the last are
-/// full; they never change, and copies share them. In clauses they are their list.
+/// Rows of a log, at most 65,535, on pages of 64. The room of a page is taken all at once. All pages but the last are
+/// full; they never change, and copies share them. In clauses they are the list of the rows.
 #[derive(Drop)]
 pub struct PagedRows<C> {
     alloc: Global,
@@ -67,7 +68,7 @@ impl<C: Copy> PagedRows<C> {
         }
     }
 
-    /// The row at an index of these, counted from 0.
+    /// The row at an index within the list, counted from 0.
     pub fn row(&self, at: usize) -> RowOf<C>
         requires { at < length self.now }
         ensures { slice_get self.now at ≡ Some result }
@@ -97,8 +98,8 @@ impl<C: Copy> PagedRows<C> {
         }
     }
 
-    /// Puts a row at the end. Memory is taken where a page begins, so at lengths that are multiples of 64 alone. An
-    /// `Err` leaves the rows as they were.
+    /// Puts a row at the end. Memory is taken only where a page begins, that is at lengths that are multiples of 64.
+    /// An `Err` leaves the rows as they were.
     pub fn push(&mut self, row: RowOf<C>) -> Result<(), AllocError>
         requires { length self.old < MAX_ROWS }
         ensures ok { OnOk result (self.new ≡ self.old ++ row ∷ []) }
@@ -128,7 +129,8 @@ impl<C: Copy> PagedRows<C> {
         }
     }
 
-    /// Puts the rows of others from an index up to another at the end. After an `Err` this may only be dropped.
+    /// Appends the rows of others from an index up to another, which is left out. After an `Err` this may only be
+    /// dropped.
     fn append(&mut self, others: &PagedRows<C>, from: usize, to: usize) -> Result<(), AllocError>
         requires order { from ≤ to }
         requires there { to ≤ length others.now }
@@ -141,7 +143,7 @@ impl<C: Copy> PagedRows<C> {
         Ok(())
     }
 
-    /// The first `base` rows stay, and these come after them. An `Err` leaves the rows as they were.
+    /// Keeps the first `base` rows, and puts the new ones behind them. An `Err` leaves the rows as they were.
     pub fn replace_from(&mut self, base: usize, part: PagedRows<C>) -> Result<(), AllocError>
         requires some { 0 < base }
         requires base { base ≤ length self.old }
@@ -160,8 +162,8 @@ impl<C: Copy> PagedRows<C> {
         Ok(())
     }
 
-    /// The rows from an index up to another, and these behind them. Where the former are a page, the pages of the
-    /// latter are moved, not copied.
+    /// The rows from an index up to another, with the new ones behind them. Where the former make one whole page, the
+    /// pages of the latter are moved, not copied.
     fn joined(&self, from: usize, to: usize, part: PagedRows<C>) -> Result<PagedRows<C>, AllocError>
         requires order { from ≤ to }
         requires there { to ≤ length self.now }
@@ -177,7 +179,7 @@ impl<C: Copy> PagedRows<C> {
         Ok(rows)
     }
 
-    /// These rows, which are a page, and others behind them, whose pages are moved, not copied.
+    /// These rows, which make one whole page, with others behind them, whose pages are moved, not copied.
     fn in_front(self, part: PagedRows<C>) -> Result<PagedRows<C>, AllocError>
         requires page { length self ≡ page_rows }
         requires some { 0 < length part }
@@ -202,7 +204,8 @@ impl<C: Copy> PagedRows<C> {
         Ok(PagedRows { alloc, full, last })
     }
 
-    /// The rows after the first `base`. Where these begin a page, all pages but the last are shared, not copied.
+    /// The rows after the first `base`. Where they begin at the start of a page, all pages but the last are shared,
+    /// not copied.
     pub fn copy_from(&self, alloc: Global, base: usize) -> Result<PagedRows<C>, AllocError>
         requires { base ≤ length self.now }
         ensures { IfOk result (λ rows. rows ≡ drop base self.now) }
@@ -215,7 +218,7 @@ impl<C: Copy> PagedRows<C> {
         Ok(rows)
     }
 
-    /// The rows from a page on, counted from 0. All pages but the last are shared, not copied.
+    /// The rows from a page on, pages counted from 0. All pages but the last are shared, not copied.
     fn pages_from(&self, alloc: Global, page: usize) -> Result<PagedRows<C>, AllocError>
         requires { page_rows * page ≤ length self.now }
         ensures { IfOk result (λ rows. rows ≡ drop (page_rows * page) self.now) }
@@ -229,7 +232,7 @@ impl<C: Copy> PagedRows<C> {
     }
 }
 
-/// The rows of a page once more, with room for a whole page where there are rows.
+/// A copy of the rows of a page, with room for a whole page where there are rows.
 fn copy_of_page<C: Copy>(alloc: Global, page: &Vec<RowOf<C>>) -> Result<Vec<RowOf<C>>, AllocError>
     ensures items { IfOk result (λ copy. copy.items ≡ page.now.items) }
     ensures room { IfOk result (λ copy. 0 < length page.now.items → page_rows ≤ vec_capacity copy) }

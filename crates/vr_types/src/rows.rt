@@ -1,3 +1,4 @@
+//! A list of rows that sites keep and messages carry.
 ghost use Rattle.std.specs.Prelude.{◌≡◌, ◌≢◌, ◌+◌, ◌*◌, ◌==◌, ◌<◌, ◌≤◌, ◌%◌, ◌++◌, ◌∷◌, [], Some, slice_get, IfOk, IsOk, OnOk, OnErr, length, take, drop, option_map};
 ghost use Rattle.vr_types.specs.Pages.{page_of, page_rows};
 
@@ -8,12 +9,12 @@ use crate::row::RowOf;
 use std::alloc::{AllocError, Global};
 use std::marker::Model;
 
-/// Rows of a log, at most 65,535, as a site keeps them and as a message carries them. What they take of a message is a
-/// pointer: they lie on pages behind it, which copies share. In clauses it is their list.
+/// Rows of a log, at most 65,535, as a site keeps them and as a message carries them. In a message they take up one
+/// pointer: they lie on pages behind it, which copies share. In clauses they are the list of the rows.
 #[derive(Drop)]
 pub struct RowsOf<C> {
     alloc: Global,
-    /// The pages, where there ever was a row.
+    /// The pages, once there was a row.
     pages: Option<Box<PagedRows<C>>>,
 }
 
@@ -83,7 +84,7 @@ impl<C: Copy> RowsOf<C> {
         }
     }
 
-    /// The row at an index of these, counted from 0.
+    /// The row at an index within the list, counted from 0.
     pub fn row(&self, at: usize) -> RowOf<C>
         requires { at < length self.now }
         ensures { slice_get self.now at ≡ Some result }
@@ -105,8 +106,8 @@ impl<C: Copy> RowsOf<C> {
         }
     }
 
-    /// Puts a row at the end. Memory is taken where a page begins, so at lengths that are multiples of 64 alone. An
-    /// `Err` leaves the rows as they were.
+    /// Puts a row at the end. Memory is taken only where a page begins, that is at lengths that are multiples of 64.
+    /// An `Err` leaves the rows as they were.
     pub fn push(&mut self, row: RowOf<C>) -> Result<(), AllocError>
         requires { length self.old < MAX_ROWS }
         ensures ok { OnOk result (self.new ≡ self.old ++ row ∷ []) }
@@ -124,8 +125,8 @@ impl<C: Copy> RowsOf<C> {
         }
     }
 
-    /// The first `base` rows stay, and these come after them. Where none stays, the rows are moved, not copied. An
-    /// `Err` leaves the rows as they were.
+    /// Keeps the first `base` rows, and puts the new ones behind them. With `base` 0 the rows are moved, not copied.
+    /// An `Err` leaves the rows as they were.
     pub fn replace_from(&mut self, base: usize, part: RowsOf<C>) -> Result<(), AllocError>
         requires base { base ≤ length self.old }
         requires few { base + length part ≤ MAX_ROWS }
@@ -152,7 +153,8 @@ impl<C: Copy> RowsOf<C> {
         }
     }
 
-    /// The rows after the first `base`. Where these begin a page, all pages but the last are shared, not copied.
+    /// The rows after the first `base`. Where they begin at the start of a page, all pages but the last are shared,
+    /// not copied.
     pub fn copy_from(&self, alloc: Global, base: usize) -> Result<RowsOf<C>, AllocError>
         requires { base ≤ length self.now }
         ensures { IfOk result (λ rows. rows ≡ drop base self.now) }
@@ -163,7 +165,7 @@ impl<C: Copy> RowsOf<C> {
         }
     }
 
-    /// The same rows once more. All pages but the last are shared, not copied.
+    /// A copy of the rows. All pages but the last are shared, not copied.
     pub fn copy(&self, alloc: Global) -> Result<Self, AllocError>
         ensures { IfOk result (λ copy. copy ≡ self.now) }
     {

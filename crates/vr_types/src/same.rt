@@ -1,4 +1,4 @@
-//! Whether two messages of a machine are the same.
+//! Comparisons of messages, envelopes and outcomes of a machine's sites.
 ghost use Rattle.std.specs.Prelude.{◌≡◌, ◌↔◌, IsTrue};
 
 use crate::cell::Boot;

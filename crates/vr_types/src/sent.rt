@@ -1,3 +1,4 @@
+//! The envelopes that one step sent.
 ghost use Rattle.std.specs.Prelude.{◌≡◌, ◌==◌, IfOk, length, slice_get, option_map};
 
 use crate::machine::Machine;
@@ -24,7 +25,7 @@ impl<C, R, O> Model for SentOf<C, R, O> {
 }
 
 impl<C: Copy, R: Copy, O: Copy> SentOf<C, R, O> {
-    /// Of these envelopes, which are moved.
+    /// Holds these envelopes, which are moved.
     pub fn new(envelopes: Vec<EnvelopeOf<C, R, O>>) -> Self
         ensures { result ≡ envelopes.items }
     {
@@ -59,7 +60,7 @@ impl<C: Copy, R: Copy, O: Copy> SentOf<C, R, O> {
         self.envelopes.as_slice()
     }
 
-    /// The same envelopes once more. `Err` where memory is refused.
+    /// A copy of the envelopes. `Err` where memory is refused.
     pub fn copy(&self, alloc: Global) -> Result<Self, AllocError>
         ensures { IfOk result (λ copy. copy ≡ self.now) }
     {
