@@ -16,7 +16,7 @@ use Rattle.vr_types.specs.Site.{Site, is_running, executed_rows}
 use Rattle.agreement.specs.Promises.{row_at, request_of, Begins}
 use Rattle.agreement.specs.Worlds.{World, Happening, Ends, step_of, IsRun, IsLegal, LegalList}
 
--- it is no crash and no REQUEST: a message between sites that was sent, a timer, a beat, or a restart
+-- it is no crash and no REQUEST: another message between sites that was sent, a timer, a beat, or a restart
 abbrev pub IsGentle : {C R O : Type 0} → EventOf C R O → Type 0
 IsGentle (Deliver envelope) = is_request envelope.msg ≡ false
 IsGentle Timer = ⊤
@@ -24,11 +24,11 @@ IsGentle Beat = ⊤
 IsGentle Crash = ⊥
 IsGentle Restart = ⊤
 
--- such an event, and no fall in place of it
+-- such an event, which does not end in a fall
 abbrev pub IsGentleTurn : {C R O : Type 0} → Happening C R O → Type 0
 IsGentleTurn h = IsGentle h.event × (h.course ≡ Ends)
 
--- by such events alone the one world leads to the other
+-- such events alone lead from the first world to the second
 pub record GoesTo {C R O : Type 0} (choose : Choice C) (f : ℕ)
     (world after : World C R O) : Type 0 where
   pub events : List (Happening C R O)
@@ -43,7 +43,7 @@ runs_at all i = option_map_or (λ x. is_running x.status) (slice_get all i) fals
 abbrev pub MostRun : {C : Type 0} → ℕ → List (Site C) → Type 0
 MostRun f all = f < count_by (runs_at all) (sites f)
 
--- each site that ran runs
+-- each site that ran still runs
 abbrev pub RunOn : {C : Type 0} → List (Site C) → List (Site C) → Type 0
 RunOn before after = (i : ℕ) → runs_at before i ≡ true → runs_at after i ≡ true
 
@@ -66,11 +66,11 @@ pub record AreWorking {C : Type 0} (f view : ℕ) (log : List (RowOf C))
   pub leads : runs_at all (primary f view) ≡ true
   pub each : (x : Site C) → Contains all x → is_running x.status ≡ true → WorksIn view log x
 
--- it is not down for good: where it is down, its cell has a boot left
+-- it is not down for good: if it is down, its cell can still count a restart
 abbrev pub CanRun : {C : Type 0} → Site C → Type 0
 CanRun x = x.status ≡ Down → x.cell.boots < max_number
 
--- all of these sites that are not down for good come to work, in a view that is at most 2f+1 above the greatest
+-- all sites that are not down for good come to work, in a view that is at most 2f+1 above the greatest
 pub record ComeToWork {C : Type 0} (f view : ℕ) (log : List (RowOf C))
     (before after : List (Site C)) : Type 0 where
   pub working : AreWorking f view log after
@@ -83,7 +83,7 @@ pub record ComeToWork {C : Type 0} (f view : ℕ) (log : List (RowOf C))
 abbrev pub HadLog : {C : Type 0} → List (RowOf C) → List (Site C) → Type 0
 HadLog {C} log all = (x : Site C) × Contains all x × (x.log ≡ log)
 
--- a moment of a legal list: some first of its events lead to this world, and from there the others go on
+-- a moment of a legal list: some of its first events lead to this world, and from there the others go on
 pub record MomentOf {C R O : Type 0} {f : ℕ} (list : LegalList C R O f) : Type 0 where
   pub before : List (Happening C R O)
   pub after : List (Happening C R O)
@@ -99,8 +99,8 @@ KeepsExecuted {C} list log =
     (moment : MomentOf list) (x : Site C) → Contains moment.then.sites x
     → Begins (executed_rows x) log
 
--- PROGRESS: the list can go on to a world in which all work in one view, with a log that one of them had, and that
--- begins with all that was ever executed
+-- PROGRESS: the list can go on to a world in which all work in one view, with a log that one of them had, which begins
+-- with all that was ever executed
 pub record Progresses {C R O : Type 0} {f : ℕ} (list : LegalList C R O f) : Type 0 where
   pub after : World C R O
   pub goes : GoesTo list.choose f list.world after
@@ -117,7 +117,7 @@ IsAsked choose f world view row asked =
     let first = primary f view in
     IsRun choose f world (step_of first (Deliver (request_of (actor_of first) row)) ∷ []) asked
 
--- A REQUEST that comes to the primary of such a view is executed by all that work, and answered.
+-- A REQUEST that reaches the primary while the sites work so is executed by all that work, and answered.
 pub record Serves {C R O : Type 0} (choose : Choice C) (f : ℕ) (world : World C R O)
     (view : ℕ) (log : List (RowOf C)) (row : RowOf C) : Type 0 where
   pub asked : World C R O

@@ -57,7 +57,7 @@ LogsRise {C} world = (x : Site C) → Contains world.sites x → IsRising x.log
 abbrev pub NeverRestarts : {C R O : Type 0} → List (Happening C R O) → Type 0
 NeverRestarts events = All (λ h. IsNoRestart h.event) events
 
--- WHAT IS COLLECTED, AND WHAT A VOTE BINDS TO
+-- WHAT IS COLLECTED, AND HOW A VOTE BINDS
 
 -- the messages that a site collects for a view change are fresh, and so are those that it collects while it recovers
 abbrev pub CollectedAreFresh : {C R O : Type 0} → World C R O → Type 0
@@ -73,7 +73,7 @@ VotesBind {C} {R} {O} world =
     (i to : ℕ) (msg : DoViewChangeOf C) (x : Site C) → Contains world.sent (mail i to (DoViewChange msg))
     → slice_get world.sites i ≡ Some x → is_running x.status ≡ true → msg.view ≤ x.view
 
--- WHAT CLIENTS ARE TOLD
+-- WHAT CLIENTS RECEIVE
 
 -- the rows up to the one that a reply answers, as its sender had them
 abbrev pub answered_rows : {C : Type 0} → Replied C → List (RowOf C)
@@ -172,8 +172,8 @@ MessagesWereAsked {C} {R} {O} events world =
     (envelope : EnvelopeOf C R O) → Contains world.sent envelope
     → RowsAre (WasAsked events) envelope.msg
 
--- Site i took this step in the list: what came before it leads to a world in which it is the site's step, and what came
--- after it goes on from the world after the step, in which the site is as the step leaves it.
+-- Site i took this step in the list: the events before it lead to a world in which it is the site's step, and the
+-- events after it go on from the world after the step, in which the site is as the step leaves it.
 pub record Took {C R O : Type 0} {f : ℕ} (list : LegalList C R O f)
     (i : ℕ) (step : Step C R O) : Type 0 where
   pub before : List (Happening C R O)
@@ -189,7 +189,7 @@ pub record Took {C R O : Type 0} {f : ℕ} (list : LegalList C R O f)
   pub rest : IsRun list.choose f (stepped world i step) after list.world
 
 -- The DOVIEWCHANGEs by which a step of the list decides whether a view opens are fresh, and so are the responses by
--- which one decides whether a state is regained.
+-- which a step decides whether a state is regained.
 abbrev pub UsedAreFresh : {C R O : Type 0} {f : ℕ} → LegalList C R O f → Type 0
 UsedAreFresh {C} {R} {O} {f} list =
     (i : ℕ) (step : Step C R O) (took : Took list i step) (envelope : EnvelopeOf C R O)
@@ -216,12 +216,12 @@ pub record WasOrdered {C R O : Type 0} {f : ℕ} (list : LegalList C R O f)
   pub sent : step.orders ≡ true
   pub normal : order.sender.status ≡ Normal
 
--- every REPLY was sent so
+-- every REPLY was sent in this way
 abbrev pub RepliesWereSent : {C R O : Type 0} {f : ℕ} → LegalList C R O f → Type 0
 RepliesWereSent {C} list =
     (reply : Replied C) → Contains list.world.replies reply → WasReplied list reply
 
--- open orders were sent so each time
+-- open orders were sent in this way each time
 abbrev pub OrdersWereSent : {C R O : Type 0} {f : ℕ} → LegalList C R O f → Type 0
 OrdersWereSent {C} list =
     (order : Ordered C) → Contains list.world.orders order → WasOrdered list order

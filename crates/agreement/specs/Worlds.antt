@@ -1,4 +1,4 @@
--- Sites alone: all of them, and all that they ever sent, under any list of events.
+-- A world of sites alone: all sites, and all that they ever sent, under any list of events.
 use Rattle.std.specs.Prelude.{◌≡◌, ℕ, ◌+◌, ◌*◌, ◌⊎◌, true, false, List, [], ◌∷◌, ◌++◌, length, map, slice_get, slice_set, Contains, Some, ⊤, if◌then◌else◌}
 use Rattle.vr_types.specs.declared.cell.Boot.{Boot}
 use Rattle.vr_types.specs.declared.event.EventOf.{EventOf}
@@ -11,13 +11,15 @@ use Rattle.vr_types.specs.Choice.{Choice, IsRight}
 use Rattle.vr_types.specs.Step.{Step}
 use Rattle.vr_types.specs.Handling.{site_step, is_refused, IsFall}
 
--- a REPLY that was sent: by which site, what that site was after the step, and the place of the row that is answered
+-- a REPLY that was sent: the site that sent it, that site as it was after the step, and the place of the row that is
+-- answered
 pub record Replied (C : Type 0) : Type 0 where
   pub from : ℕ
   pub sender : Site C
   pub place : ℕ
 
--- Open orders that were sent: by which site, and what that site was after the step. They are those of its machine.
+-- Open orders that were sent: the site that sent them, and that site as it was after the step. They are those of its
+-- machine.
 pub record Ordered (C : Type 0) : Type 0 where
   pub from : ℕ
   pub sender : Site C
@@ -29,7 +31,7 @@ pub record World (C R O : Type 0) : Type 0 where
   pub replies : List (Replied C)  -- every REPLY that was ever sent
   pub orders : List (Ordered C)  -- each time that open orders were sent
 
--- an event at a site ends as its step says, or the site falls, over a cell of this value
+-- how an event at a site ends: as its step says, or in a fall of the site, over a cell of this value
 pub data Course : Type 0 where
   Ends : Course
   FallsOver : Boot → Course
@@ -73,15 +75,15 @@ stepped world i step = record {
 abbrev pub fallen : {C R O : Type 0} → World C R O → ℕ → Boot → World C R O
 fallen world i cell = record world { sites = slice_set world.sites i (over cell Down) }
 
--- a step that is not refused ends, or is a fall
+-- a step that is not refused ends as it says, or in a fall
 abbrev pub EndsIn : {C R O : Type 0}
     → World C R O → ℕ → Site C → Step C R O → Course → World C R O → Type 0
 EndsIn world i x step Ends after = (is_refused step.ending ≡ false) × (after ≡ stepped world i step)
 EndsIn world i x step (FallsOver cell) after =
     IsFall x step (over cell Down) × (after ≡ fallen world i cell)
 
--- It happens in this world, and leads to that one. What the site refuses does not happen; so an envelope reaches the
--- site that it is addressed to, and no other.
+-- The event happens in this world, and leads to that one. An event that the site refuses does not happen; so an
+-- envelope reaches the site that it is addressed to, and no other.
 pub record Happens {C R O : Type 0} (choose : Choice C) (f : ℕ) (world : World C R O)
     (h : Happening C R O) (after : World C R O) : Type 0 where
   pub before : Site C
@@ -89,7 +91,7 @@ pub record Happens {C R O : Type 0} (choose : Choice C) (f : ℕ) (world : World
   pub may_happen : MayHappen world.sent h.event
   pub ends : EndsIn world h.site before (site_step choose f h.site before h.event) h.course after
 
--- a list of what happens leads from a world to another
+-- a list of events leads from a world to another
 abbrev pub IsRun : {C R O : Type 0}
     → Choice C → ℕ → World C R O → List (Happening C R O) → World C R O → Type 0
 IsRun choose f world [] after = after ≡ world
@@ -107,7 +109,7 @@ pub record IsLegal {C R O : Type 0} (choose : Choice C) (f : ℕ) (cells : List 
   pub all : length cells ≡ 2 * f + 1
   pub run : IsRun choose f (opening_world f cells) events world
 
--- WHAT EVERY LAW IS SAID OF: any legal list of 2f+1 sites, from an opening over cells of any value, where the choices
+-- WHAT EVERY LAW SPEAKS OF: any legal list of 2f+1 sites, from an opening over cells of any value, where the choices
 -- that the steps take as given are right; and the world that it leads to.
 pub record LegalList (C R O : Type 0) (f : ℕ) : Type 0 where
   pub choose : Choice C
@@ -117,7 +119,7 @@ pub record LegalList (C R O : Type 0) (f : ℕ) : Type 0 where
   pub world : World C R O
   pub legal : IsLegal choose f cells events world
 
--- any way in which a legal list goes on, and the world that this leads to
+-- any continuation of a legal list, and the world that it leads to
 pub record Continued {C R O : Type 0} {f : ℕ} (list : LegalList C R O f) : Type 0 where
   pub events : List (Happening C R O)
   pub world : World C R O

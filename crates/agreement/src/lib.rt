@@ -2,9 +2,9 @@
 //! contracts say what holds under every legal list of what may happen to sites alone, for every machine, every number
 //! of sites and every opening.
 //!
-//! A `LegalList` is any list of deliveries, losses, repeats, timers, beats, crashes, restarts and falls that may happen
-//! to 2f+1 sites over boot cells of any value, with the world that it leads to; `Continued` is any way in which it goes
-//! on. Each promise is a word of `specs/Promises.antt`; those of how a list can go on, of `specs/Progress.antt`.
+//! A `LegalList` is any list of deliveries, losses, repeats, timers, beats, crashes, restarts and falls that may
+//! happen to 2f+1 sites over boot cells of any value, with the world that it leads to; `Continued` is any continuation
+//! of it. Each promise is defined in `specs/Promises.antt`; those of how a list can go on, in `specs/Progress.antt`.
 #![tactic(auto)]
 
 ghost use Rattle.std.specs.Prelude.{◌≡◌, ℕ, ◌≤◌, ◌++◌, List, All};
@@ -41,9 +41,9 @@ pub fn rising<C, R, O>()
     ensures { (f : ℕ) (list : LegalList C R O f) → LogsRise list.world }
 {}
 
-/// A site that ever sent a DOVIEWCHANGE runs in no view below it, whether or not it restarted since. Of the messages that a
-/// site collects, none's sender knew a later boot of another's sender than that one's message is of; nor of those by which
-/// a step opens a view or regains a state.
+/// A site that ever sent a DOVIEWCHANGE runs in no view below it, whether or not it restarted since. For any two
+/// messages that a site collects, the sender of one knew no later boot of the sender of the other than the one that
+/// the other is of; the same holds of the messages by which a step opens a view or regains a state.
 pub fn binding<C, R, O>()
     ensures bind { (f : ℕ) (list : LegalList C R O f) → VotesBind list.world }
     ensures fresh { (f : ℕ) (list : LegalList C R O f) → CollectedAreFresh list.world }
@@ -70,9 +70,9 @@ pub fn replies_agree<M: Machine>()
 {}
 
 /// Nothing is invented: each row of every log, and of every message that was ever sent, came by a REQUEST of that
-/// client with that number and command that was delivered before; each REPLY was sent in a step that a site of the list
-/// took, for a row that this site had executed by then; and so were open orders each time, by a site that is normal
-/// after the step.
+/// client with that number and command that was delivered before. Each REPLY was sent in a step that a site of the
+/// list took, for a row that this site had executed by then. Open orders were only sent in a step of a site of the
+/// list that is normal after it.
 pub fn invented<C, R, O>()
     ensures logs { (f : ℕ) (list : LegalList C R O f) → LogsWereAsked list.events list.world }
     ensures messages { (f : ℕ) (list : LegalList C R O f) →
@@ -81,9 +81,9 @@ pub fn invented<C, R, O>()
     ensures orders { (f : ℕ) (list : LegalList C R O f) → OrdersWereSent list }
 {}
 
-/// What clients are told: every REPLY ever sent carries the machine's answer to a row that its sender had executed, and
-/// every order ever sent was open after the rows that its sender had executed, the sender as it was after the step that
-/// sent it. What was ever sent is what the steps of sites send, and nothing else.
+/// What clients receive: every REPLY ever sent carries the machine's answer to a row that its sender had executed, and
+/// every order ever sent was open after the rows that its sender had executed, the sender as it was after the step
+/// that sent it. What was ever sent is what the steps of sites send, and nothing else.
 pub fn told<M: Machine>()
     ensures replies { (f : ℕ) (list : LegalList M.Cmd M.Reply M.Order f) (start : M) →
         All (IsRightReply M.Machine start list) (replies_sent M.Machine start list.world) }
@@ -96,7 +96,7 @@ pub fn told<M: Machine>()
 {}
 
 /// A list that is legal over these cells leads to one world, whatever right choices its steps take as given: a fall
-/// names the value of its cell. Of one choice this holds, right or not.
+/// names the value of its cell. For one given choice this holds whether it is right or not.
 pub fn one_world<C, R, O>()
     ensures right_choices { (f : ℕ) (a b : LegalList C R O f) →
         a.cells ≡ b.cells → a.events ≡ b.events → a.world ≡ b.world }
@@ -105,11 +105,11 @@ pub fn one_world<C, R, O>()
         IsLegal choose f cells events b → a ≡ b }
 {}
 
-/// For f above 0: no legal list in which f+1 sites run, and no view is near its end, is a dead end: without a crash it
-/// can go on, by timers, beats, restarts and messages between sites that were sent, until every site that is not down
-/// for good works in one view with one log, all of it executed, which begins with what any site had executed at any
-/// moment of the list. Where sites work so, each new request can be executed by all and answered, one after another;
-/// and the newest of a client can be answered again.
+/// For f above 0: a legal list in which f+1 sites run, and no view is near its end, can always go on without a crash,
+/// by timers, beats, restarts and messages between sites that were sent, until every site that is not down for good
+/// works in one view with one log, all of it executed, which begins with what any site had executed at any moment of
+/// the list. Where sites work so, each new request can be executed by all that work and answered, one after another;
+/// and the newest request of a client can be answered again.
 pub fn progress<C, R, O>()
     ensures progress { (f : ℕ) → 1 ≤ f → (list : LegalList C R O f) →
         CanGoOn f list.world.sites → Progresses list }

@@ -1,4 +1,4 @@
--- What a command is answered, and what the book then holds.
+-- The answer to a command, and what the book then holds.
 use Rattle.std.specs.Prelude.{ℕ, ◌+◌, ◌-ℤ◌, ◌==◌, ◌&&◌, ◌||◌, Bool, true, false, not, if◌then◌else◌, nat_lt, List, [], ◌∷◌, ◌++◌, length, Option, Some, None, ℤ, pos, int_lt, slice_set}
 use Rattle.std.specs.List.{list_any}
 use Rattle.pvp_types.specs.declared.setup.Setup.{Setup}
@@ -31,7 +31,7 @@ has_member setup m = is_between 1 (length setup.members) m
 abbrev pub has_currency : Setup → ℕ → Bool
 has_currency setup c = nat_lt c (length setup.currencies)
 
--- a number that a member may have
+-- the numbers that members may have
 abbrev pub is_member_number : ℕ → Bool
 is_member_number client = is_between 1 MOST_MEMBERS client
 
@@ -42,22 +42,22 @@ is_amount amt = is_between 1 most_amount amt
 abbrev pub has_order : List Entry → ℕ → ℕ → Bool
 has_order entries c out = list_any (λ order. order.out == out) (orders entries c)
 
--- two pairs of the same sides and the same words
+-- two pairs of the same sides, currencies and amounts
 abbrev pub is_same_trade : Pair → Pair → Bool
 is_same_trade p q =
     (p.first == q.first)
     && ((p.second == q.second)
     && ((p.sell == q.sell) && ((p.sell_amt == q.sell_amt) && ((p.buy == q.buy) && (p.buy_amt == q.buy_amt)))))
 
--- an instruction whose words are the exact mirror of a pair's, from the pair's second side
+-- an instruction from the second side of a pair that is its exact mirror
 abbrev pub is_mirror : Pair → ℕ → Instruction → Bool
 is_mirror p client asked = is_same_trade p (pair_from asked.other (mirror client asked))
 
--- a side of a pair: the first, or where it is matched the second
+-- a side of a pair: the first side, or the second if it is matched
 abbrev pub is_side : List Entry → Pair → ℕ → Bool
 is_side entries p client = (client == p.first) || ((client == p.second) && is_matched entries p)
 
--- a member's balances once an amount of a currency is paid out
+-- a member's balances after an amount of a currency is paid out
 abbrev pub balances_less : Setup → List Entry → List Pair → ℕ → ℕ → ℕ → List ℤ
 balances_less setup entries settled m c amt =
     slice_set (balances_with setup entries settled m) c (balance_with entries settled m c -ℤ pos amt)
@@ -133,7 +133,7 @@ module _ (setup : Setup) (entries : List Entry) (client : ℕ) where
   abbrev pub on_pay_out : ℕ → ℕ → Reply
   on_pay_out c amt = unless (pay_out_checks c amt) (Order (length (orders entries c) + 1))
 
-  -- the node's word on an order, that it paid it or returned it
+  -- the node's report that it paid or returned an order
   abbrev pub end_checks : ℕ → ℕ → List (Bool × Reason)
   end_checks c out =
       (not (client == node_of c), NotYours)
@@ -153,7 +153,7 @@ module _ (setup : Setup) (entries : List Entry) (client : ℕ) where
   answer (Paid ccy out) = on_end ccy out
   answer (Returned ccy out) = on_end ccy out
 
--- the operator's word to settle
+-- the operator asks for a walk
 abbrev pub is_walk : ℕ → Cmd → Bool
 is_walk client (Settle most) = client == 0
 is_walk client _ = false
@@ -162,12 +162,12 @@ abbrev pub is_refusal : Reply → Bool
 is_refusal (No reason) = true
 is_refusal _ = false
 
--- the entries with a command, where it was not refused
+-- the entries with a command added, unless it was refused
 abbrev pub with_entry : List Entry → ℕ → Cmd → Reply → List Entry
 with_entry entries client cmd reply =
     if is_refusal reply then entries else entries ++ record { client = client; cmd = cmd; reply = reply } ∷ []
 
--- what a client's command is answered
+-- the answer to a client's command
 abbrev pub answer_to : Ledger → ℕ → Cmd → Reply
 answer_to held client cmd = answer held.setup held.entries client cmd
 
@@ -179,7 +179,7 @@ after held client cmd = record {
   applied = held.applied + 1;
 }
 
--- a command as a log has it: its sender, the sender's number for it, and what it asks
+-- a command as a log has it: its sender, the sender's number for it, and the command
 abbrev pub Row : Type 0
 Row = RowOf Cmd
 

@@ -41,17 +41,17 @@ pub record IsAccount (currencies : List Currency) (account : Account) : Type 0 w
   pub places : length account.balances ≡ 8
   pub same : account ≡ account_of currencies account.balances
 
--- the account once an amount of a currency is posted on it
+-- the account after an amount of a currency is posted on it
 abbrev pub after_posting : List Currency → ℕ → ℤ → Account → Account
 after_posting currencies c amt account =
     account_of currencies (slice_set account.balances c (slice_index_or account.balances c (pos 0) +ℤ amt))
 
--- the account once an amount of one currency is sold for one of another
+-- the account after an amount of one currency is sold for one of another
 abbrev pub after_trade : List Currency → ℕ → ℕ → ℕ → ℕ → Account → Account
 after_trade currencies sell sell_amt buy buy_amt account =
     after_posting currencies buy (pos buy_amt) (after_posting currencies sell (neg_ℤ (pos sell_amt)) account)
 
--- the three tests, on what is kept
+-- the three tests, on the kept sums
 abbrev pub is_within_limits : Member → Account → Bool
 is_within_limits member account =
     not (int_lt account.value (pos 0)) && (is_within_short member.short account.balances
@@ -61,7 +61,7 @@ is_within_limits member account =
 abbrev pub empty_account : Account
 empty_account = record { balances = replicate 8 (pos 0); value = pos 0; shortage = 0 }
 
--- what an account that is not there reads as
+-- an account that is not there reads as this one
 abbrev pub no_account : Account
 no_account = record { balances = []; value = pos 0; shortage = 0 }
 
@@ -84,8 +84,8 @@ pub record AreFigures (figure : ℕ → ℤ) (figures : List ℤ) : Type 0 where
   pub places : length figures ≡ 8
   pub same : (c : ℕ) → slice_index_or figures c (pos 0) ≡ figure c
 
--- what an accepted command posts on one account: a pay-in, a pay-out, or an order that is returned, where orders are
--- found so
+-- what an accepted command posts on one account: a pay-in, a pay-out, or an order that is returned; `order_of` finds
+-- the order
 abbrev pub movement_with : (ℕ → ℕ → Option PayOrder) → ℕ → Cmd → Option Movement
 movement_with order_of client (Fund ccy pay member amt) = Some (record { member = member; ccy = ccy; amt = pos amt })
 movement_with order_of client (PayOut ccy amt) = Some (record { member = client; ccy = ccy; amt = neg_ℤ (pos amt) })
@@ -96,7 +96,7 @@ movement_with order_of client _ = None
 abbrev pub movement_by : List Entry → ℕ → Cmd → Option Movement
 movement_by entries client cmd = movement_with (order_of entries) client cmd
 
--- what comes of it to a member in a currency, and to a figure
+-- what it adds to a member's balance in a currency, and to a figure
 abbrev pub moved_to : ℕ → ℕ → Option Movement → ℤ
 moved_to m c None = pos 0
 moved_to m c (Some x) = if (x.member == m) && (x.ccy == c) then x.amt else pos 0
@@ -105,7 +105,7 @@ abbrev pub moved_in : ℕ → Option Movement → ℤ
 moved_in c None = pos 0
 moved_in c (Some x) = if x.ccy == c then x.amt else pos 0
 
--- accounts and figures once it is posted
+-- accounts and figures after it is posted
 abbrev pub accounts_after : List Currency → Option Movement → List Account → List Account
 accounts_after currencies None accounts = accounts
 accounts_after currencies (Some x) accounts =
@@ -115,7 +115,7 @@ abbrev pub figures_after : Option Movement → List ℤ → List ℤ
 figures_after None figures = figures
 figures_after (Some x) figures = slice_set figures x.ccy (slice_index_or figures x.ccy (pos 0) +ℤ x.amt)
 
--- A movement can be posted: its account and its figure are there, and small.
+-- A movement can be posted: its account and its figure are there, and within their bounds.
 pub record CanPost (setup : Setup) (accounts : List Account) (figures : List ℤ) (x : Movement) : Type 0 where
   pub member : x.member < length accounts
   pub currency : x.ccy < length setup.currencies
@@ -125,7 +125,7 @@ pub record CanPost (setup : Setup) (accounts : List Account) (figures : List ℤ
   pub places : length figures ≡ 8
   pub figure : IsWithin (64 * most_total) (slice_index_or figures x.ccy (pos 0))
 
--- both members of a pair, with their accounts once it is settled
+-- the accounts of both members of a pair after it is settled
 abbrev pub first_with : List Currency → Pair → List Account → Account
 first_with currencies p accounts =
     after_trade currencies p.sell p.sell_amt p.buy p.buy_amt (account_at accounts p.first)
@@ -149,7 +149,7 @@ both_pass_with setup p accounts =
     passes_with setup p.first (first_with setup.currencies p accounts)
     && passes_with setup p.second (second_with setup.currencies p accounts)
 
--- A pair can be settled: its members' accounts are there, and small.
+-- A pair can be settled: its members' accounts are there, and within their bounds.
 pub record CanSettle (setup : Setup) (kept : List Account) (p : Pair) : Type 0 where
   pub first : p.first < length kept
   pub second : p.second < length kept
@@ -160,7 +160,7 @@ pub record CanSettle (setup : Setup) (kept : List Account) (p : Pair) : Type 0 w
   pub each : (m : ℕ) → m < length kept → IsAccount setup.currencies (account_at kept m)
   pub small : (m : ℕ) → All (IsWithin most_total) (account_at kept m).balances
 
--- those of some matched pairs that wait: they are neither settled nor taken back by both sides
+-- the pairs among some matched ones that wait: they are neither settled nor taken back by both sides
 abbrev pub waiting_pairs : List Entry → List Pair → List Pair → List Pair
 waiting_pairs entries settled some =
     filter (λ p. not (has_reference settled p.reference) && not (both_have_asked entries p)) some
@@ -170,7 +170,7 @@ pub record IsLine (entries : List Entry) (settled line : List Pair) : Type 0 whe
   pub waits : waiting_pairs entries settled line ≡ candidates entries settled
   pub known : AllByRecursion (λ p. pair_of entries p.reference ≡ Some p) line
 
--- what a book keeps beside its entries: the pairs by reference, with what came of each, the line of those that wait,
+-- what a book keeps beside its entries: the pairs by reference, with what became of each; the line of those that wait;
 -- the accounts, the figures, the numbers of the pay-ins, the orders, and how many pairs are in each state
 pub record Kept : Type 0 where
   pub pairs : List (ℕ × KeptPair)
@@ -181,10 +181,10 @@ pub record Kept : Type 0 where
   pub table : OrderTable
   pub tally : Tally
 
--- each is what it is by the entries
+-- each kept value is what the entries say
 pub record KeepsLedger (held : Ledger) (kept : Kept) : Type 0 where
   pub ledger : IsLedger held
-  -- the commands that it accepted
+  -- a history of commands that leaves these entries
   pub history : List Row
   pub reached : held.entries ≡ book_of held.setup history
   pub accounts : AreAccounts held.setup.currencies (length held.setup.members)

@@ -40,15 +40,15 @@ by_reference kept some = map (λ p. (p.reference, kept p)) some
 abbrev pub just_opened : Pair → KeptPair
 just_opened p = record { pair = p; matched = false; settled = false; first_back = false; second_back = false }
 
--- it was taken back: a matched one by both sides, an unmatched one by its first
+-- it was taken back: if it is matched, by both sides; otherwise by its first
 abbrev pub is_back : KeptPair → Bool
 is_back k = if k.matched then k.first_back && k.second_back else k.first_back
 
--- a side of it: the first, or where it is matched the second
+-- a side of it: the first side, or the second if it is matched
 abbrev pub is_side_kept : KeptPair → ℕ → Bool
 is_side_kept k client = (client == k.pair.first) || ((client == k.pair.second) && k.matched)
 
--- how far it has come
+-- its state
 abbrev pub state_kept : KeptPair → PairState
 state_kept k =
     if k.settled then state.Settled
@@ -60,11 +60,11 @@ state_kept k =
 abbrev pub still_waits : KeptPair → Bool
 still_waits k = not k.settled && not (k.first_back && k.second_back)
 
--- the same once it is settled
+-- the pair after it is settled
 abbrev pub once_settled : KeptPair → KeptPair
 once_settled k = record k { settled = true }
 
--- the same once an entry that names its reference is noted
+-- the pair after an entry that names its reference is noted
 abbrev pub noted_by : ℕ → Cmd → Reply → KeptPair → KeptPair
 noted_by client (Instruct asked) Matched k = record k { matched = true }
 noted_by client (Rescind reference) reply k = record k {
@@ -73,7 +73,7 @@ noted_by client (Rescind reference) reply k = record k {
 }
 noted_by client _ _ k = k
 
--- what is kept of a pair once an entry that names its reference is noted, which may open it
+-- what is kept of a pair after an entry that names its reference is noted; the entry may open the pair
 abbrev pub pair_noted : ℕ → Cmd → Reply → Option KeptPair → Option KeptPair
 pair_noted client cmd reply None = option_map just_opened (opened_by client cmd reply)
 pair_noted client cmd reply (Some k) = Some (noted_by client cmd reply k)
@@ -93,7 +93,7 @@ pair_in kept (Some r) = lookup (nat_eq r) kept
 abbrev pub named_in : List (ℕ × KeptPair) → Cmd → Option KeptPair
 named_in kept cmd = pair_in kept (named_by cmd)
 
--- a pair kept under its reference, in place of what was kept of it
+-- a pair kept under its reference, in place of what was kept there
 abbrev pub pair_put : List (ℕ × KeptPair) → Option KeptPair → List (ℕ × KeptPair)
 pair_put kept None = kept
 pair_put kept (Some k) = insert_entry nat_eq kept k.pair.reference k
@@ -108,6 +108,6 @@ pub record NotesPair (e : Entry) (kept later : List (ℕ × KeptPair)) (shorter 
       ≡ kept_count tally state + is_at (option_map state_kept
       (pair_noted e.client e.cmd e.reply (named_in kept e.cmd))) state
 
--- a matched pair waits, by what is kept of it
+-- a matched pair waits, as kept
 abbrev pub is_waiting : List (ℕ × KeptPair) → Pair → Bool
 is_waiting kept p = option_map_or still_waits (lookup (nat_eq p.reference) kept) false

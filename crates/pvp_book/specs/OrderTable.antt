@@ -24,7 +24,7 @@ step_of client (Paid ccy out) reply = Ended ccy out
 step_of client (Returned ccy out) reply = Ended ccy out
 step_of client _ _ = Nothing
 
--- an order that was just made, and one once it ends
+-- an order that was just made, and an order that also ends if `ends` is true
 abbrev pub just_made : PayOrder → KeptOrder
 just_made order = record { order = order; ended = false }
 
@@ -35,25 +35,25 @@ once_ended ends k = record { order = k.order; ended = k.ended || ends }
 abbrev pub at_number : List KeptOrder → ℕ → Option KeptOrder
 at_number orders n = if n == 0 then None else slice_get orders (n - 1)
 
--- a currency's orders, as the table has them, and for how many more it has room
+-- a currency's orders in the table, and for how many more it has room
 abbrev pub made_at : OrderTable → ℕ → List KeptOrder
 made_at table c = option_map_or vec_items (slice_get table.made c) []
 
 abbrev pub room_at : OrderTable → ℕ → ℕ
 room_at table c = option_map_or (λ v. vec_capacity v - vec_len v) (slice_get table.made c) 0
 
--- the order of a currency and a number, as the table has it
+-- the order of a currency and a number in the table
 abbrev pub kept_order : OrderTable → ℕ → ℕ → Option KeptOrder
 kept_order table c n = at_number (made_at table c) n
 
 abbrev pub order_at : OrderTable → ℕ → ℕ → Option PayOrder
 order_at table c n = option_map (λ k. k.order) (kept_order table c n)
 
--- it is noted as paid or returned
+-- the order is noted as paid or returned
 abbrev pub has_ended : OrderTable → ℕ → ℕ → Bool
 has_ended table c n = option_map_or (λ k. k.ended) (kept_order table c n) false
 
--- a currency's open orders, as the table has them, and for how many more it has room
+-- a currency's open orders in the table, and for how many more it has room
 abbrev pub open_at : OrderTable → ℕ → List PayOrder
 open_at table c = option_map_or deque_items (slice_get table.outstanding c) []
 
@@ -64,7 +64,7 @@ open_room_at table c = option_map_or (λ q. deque_capacity q - deque_len q) (sli
 abbrev pub AreAscending : List PayOrder → Type 0
 AreAscending orders = AllPairs (λ a b. a.out < b.out) orders
 
--- an order in one of the first eight currencies
+-- the currency of a step is one of the first eight
 abbrev pub IsCounted : Step → Type 0
 IsCounted (Made order) = order.ccy < 8
 IsCounted (Ended ccy out) = ccy < 8
@@ -81,7 +81,7 @@ abbrev pub HasRoom : Step → OrderTable → Type 0
 HasRoom (Made order) table = (0 < room_at table order.ccy) × (0 < open_room_at table order.ccy)
 HasRoom _ table = Unit {0}
 
--- all that these entries have of it
+-- the table has what these entries say
 pub record AreMade (entries : List Entry) (table : OrderTable) : Type 0 where
   pub made : (c n : ℕ) → order_at table c n ≡ order_of entries c n
   pub ended : (c n : ℕ) → has_ended table c n ≡ has_end entries c n

@@ -5,12 +5,12 @@ use Rattle.pvp_book.specs.declared.entry.Entry.{Entry}
 use Rattle.pvp_book.specs.declared.pay_ins.PayIns.{PayIns}
 use Rattle.pvp_book.specs.Ledger.{has_pay_in}
 
--- a currency's pay-in of this number is among the first ones, or noted by itself
+-- a currency's pay-in of this number is among the first ones that all came, or noted separately
 abbrev pub has_come : PayIns → ℕ → ℕ → Bool
 has_come kept c k =
     (nat_lt 0 k && nat_le k (slice_index_or kept.up_to c 0))
     || list_any (λ x. (c == x.0) && (k == x.1)) kept.others.keys
 
--- all that these entries have, and no other
+-- it has exactly the pay-ins of these entries
 abbrev pub ArePaidIn : List Entry → PayIns → Type 0
 ArePaidIn entries kept = (c k : ℕ) → has_come kept c k ≡ has_pay_in entries c k

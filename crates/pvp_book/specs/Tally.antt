@@ -14,7 +14,7 @@ kept_count tally Matched = tally.matched
 kept_count tally Settled = tally.settled
 kept_count tally Rescinded = tally.rescinded
 
--- 1 where a pair is in a state
+-- 1 if a pair is in a state, else 0
 abbrev pub is_at : Option PairState → PairState → ℕ
 is_at None state = 0
 is_at (Some found) state = if is_state found state then 1 else 0

@@ -1,4 +1,4 @@
-//! What a book keeps of a member: its balances, and what they come to in its tests.
+//! What a book keeps of each member: its balances, and the sums that its tests use.
 ghost use Rattle.std.specs.Prelude.{◌≡◌, ℕ, ◌*◌, ◌<◌, ◌≤◌, length, All, IfSome, pos, neg_ℤ};
 ghost use Rattle.pvp_types.specs.Setup.{IsValid};
 ghost use Rattle.pvp_book.specs.Limits.{standing_of};
@@ -13,18 +13,17 @@ use crate::pair::Pair;
 use pvp_types::{Cmd, Currency, Member, Setup};
 use std::alloc::{AllocError, Global};
 
-/// A member's balances by currency, in minor units, and what they come to.
+/// A member's balances by currency, in minor units, and the sums that its tests use.
 #[derive(Clone, Copy, Debug, PartialEq, Eq)]
 pub struct Account {
     pub balances: [i64; 8],
-    /// What the balances above 0 are worth less what those below are, in ten thousandths of the
-    /// common unit.
+    /// The worth of the balances above 0 minus the debt of those below, in ten thousandths of the common unit.
     pub value: i128,
-    /// What is short in all currencies, in the common unit.
+    /// What it is short in all currencies together, in the common unit.
     pub shortage: u128,
 }
 
-/// An amount that comes to a member's balance in a currency, below 0 where it goes.
+/// An amount that is added to a member's balance in a currency; below 0 it is taken off.
 #[derive(Clone, Copy, Debug, PartialEq, Eq)]
 pub struct Movement {
     pub member: u16,
@@ -54,7 +53,7 @@ impl Account {
         self.balances.get(usize::from(c)).copied().unwrap_or(0)
     }
 
-    /// The account once an amount of a currency is posted on it, which is below 0 where it is taken.
+    /// The account after an amount of a currency is posted on it; an amount below 0 is taken off.
     pub fn after_posting(&self, setup: &Setup, c: u8, amt: i64) -> Account
         requires valid { IsValid setup.now }
         requires account { IsAccount setup.now.currencies self.now }
@@ -76,7 +75,7 @@ impl Account {
         }
     }
 
-    /// The account once an amount of one currency is sold for one of another.
+    /// The account after an amount of one currency is sold for one of another.
     pub fn after_trade(
         &self,
         setup: &Setup,
@@ -118,8 +117,8 @@ fn standing_of(currency: &Currency, balance: i64) -> i128
     limits::worth_of(currency, balance) as i128 - limits::debt_of(currency, balance) as i128
 }
 
-/// What an accepted entry posts on one account, where these orders were made: a pay-in, a pay-out, or
-/// an order that is returned.
+/// What an accepted entry posts on one account, with these orders in the table: a pay-in, a pay-out, or an order that
+/// is returned.
 pub fn movement_by(table: &OrderTable, entry: &Entry) -> Option<Movement>
     requires small { (c n : ℕ) → IfSome (order_at table.now c n) (λ order. order.amt ≤ most_total) }
     requires amount { amount_of entry.now.cmd ≤ most_total }
@@ -157,7 +156,7 @@ pub fn movement_by(table: &OrderTable, entry: &Entry) -> Option<Movement>
 /// What a book keeps of its members and currencies.
 #[derive(Debug, Drop)]
 pub struct Accounts {
-    /// The members' accounts by their numbers; the operator's, the first, has nothing in it.
+    /// The members' accounts by their numbers; the first is the operator's, with nothing in it.
     pub members: Vec<Account>,
     /// By currency, in minor units.
     pub figures: [i64; 8],
@@ -168,7 +167,7 @@ impl Accounts {
     ghost use Rattle.std.specs.Option.{ForSome};
     ghost use Rattle.pvp_book.specs.Kept.{empty_account, account_at, balance_at, passes_with, both_pass_with, accounts_with, accounts_after, figures_after, CanPost, CanSettle};
 
-    /// The accounts of so many members, with nothing in them. `Err` where memory is refused.
+    /// The accounts of this many members, with nothing in them. `Err` where memory is refused.
     pub fn new(alloc: Global, members: u16) -> Result<Self, AllocError>
         ensures members { IfOk result (λ accounts. accounts.members.items
             ≡ replicate (members + 1) empty_account) }
@@ -224,7 +223,8 @@ impl Accounts {
         self.figures[usize::from(moved.ccy)] += moved.amt;
     }
 
-    /// Posts a pair on all its amounts where both members pass with it; says whether it did.
+    /// Settles a pair, with all its amounts, if both members pass their tests with it; says whether it did. Otherwise
+    /// nothing changes.
     pub fn settle(&mut self, setup: &Setup, pair: &Pair) -> bool
         requires valid { IsValid setup.now }
         requires can { CanSettle setup.now self.old.members.items pair.now }
@@ -247,7 +247,7 @@ impl Accounts {
         false
     }
 
-    /// Whether a member still passes its tests once an amount of a currency is paid out.
+    /// Whether a member still passes its tests after an amount of a currency is paid out.
     pub fn passes_less(&self, setup: &Setup, m: u16, c: u8, amt: u64) -> bool
         requires valid { IsValid setup.now }
         requires member { m < length self.now.members.items }

@@ -1,3 +1,4 @@
+//! The book of a bank: it answers commands, and keeps the sums that its answers need.
 ghost use Rattle.std.specs.Prelude.{◌≡◌, ◌<◌, ◌≤◌, ◌+◌, ◌++◌, ◌∷◌, [], List, true, false, length, slice_get, IfOk, OnOk, IfSome};
 ghost use Rattle.pvp_book.specs.declared.entry.Entry.{Entry as Noted};
 ghost use Rattle.pvp_book.specs.Answer.{is_amount, is_refusal, is_same_trade};
@@ -20,17 +21,17 @@ use vr_types::MOST_MEMBERS;
 /// The operator's client number.
 const OPERATOR: u16 = 0;
 
-/// The book of a bank: the commands that it accepted, over which every balance is a sum.
+/// The book of a bank: the commands that it accepted. Every balance is a sum over them.
 #[derive(Debug, Drop)]
 pub struct Book {
     setup: Setup,
     entries: Vec<Entry>,
-    /// All pairs by reference, in the order in which they were first seen, with what came of each.
+    /// All pairs by reference, in the order in which they were first seen, each with what became of it.
     pairs: IndexMap<u32, KeptPair>,
-    /// The matched pairs that wait, in the order in which they were matched, and those that no longer
-    /// do since the last walk.
+    /// The matched pairs that wait, in the order in which they were matched, and also those that stopped waiting since
+    /// the last walk.
     line: Vec<Pair>,
-    /// What each member has, and the figures.
+    /// The members' accounts, and the figures.
     accounts: Accounts,
     /// The pay-ins that came, by currency and number.
     pay_ins: PayIns,
@@ -97,8 +98,8 @@ impl Book {
         })
     }
 
-    /// Answers a client's command, and keeps it where it is not refused. After an `Err`, which
-    /// only want of memory gives, the book may only be dropped.
+    /// Answers a client's command, and keeps it unless it is refused. After an `Err`, which only lack of memory gives,
+    /// the book may only be dropped.
     pub fn apply(&mut self, client: u16, cmd: Cmd) -> Result<Reply, AllocError>
         requires { self.old.applied < 65535 }
         ensures answer { IfOk result (λ reply. reply ≡ answer_to self.old client cmd) }
@@ -131,8 +132,8 @@ impl Book {
         self.accounts.figure(c)
     }
 
-    /// A member's value, in ten thousandths of the common unit: what it has is worth, less the
-    /// haircuts, so much more than what it is short is with them on top.
+    /// A member's value, in ten thousandths of the common unit: the worth of its balances above 0, each less the
+    /// haircut, minus the debt of its balances below 0, each with the haircut added.
     pub fn value(&self, m: u16) -> i128
         ensures { result ≡ value self.now.setup self.now.entries m }
     {
@@ -146,8 +147,8 @@ impl Book {
         self.tally.get(PairState::Matched) as usize
     }
 
-    /// The reference of the waiting pair at a place, in the order in which they were matched, which
-    /// is the order of a walk.
+    /// The reference of the waiting pair at a place, counted from 0, in the order in which they were matched, which is
+    /// the order of a walk.
     pub fn queue_at(&self, at: usize) -> Option<u32>
         ensures { result ≡ option_map (λ p. p.reference)
             (slice_get (queue self.now.setup self.now.entries) at) }
@@ -156,8 +157,8 @@ impl Book {
         Some(pair.reference)
     }
 
-    /// The outstanding order at a place, by currency, then number, and the client number of its
-    /// node.
+    /// The outstanding order at a place, counted from 0, with the client number of its node. Orders are sorted by
+    /// currency, then by number.
     pub fn open(&self, at: usize) -> Option<(u16, PayOrder)>
         ensures { result ≡ slice_get (outstanding_orders self.now.setup self.now.entries) at }
     {
@@ -186,14 +187,14 @@ impl Book {
         self.table.count(c) as u32
     }
 
-    /// How far the pair of a reference has come; `None` where there is none.
+    /// The state of the pair of a reference; `None` where there is none.
     pub fn pair(&self, reference: u32) -> Option<PairState>
         ensures { result ≡ pair_state self.now.setup self.now.entries reference }
     {
         Some(self.kept_pair_of(reference)?.state())
     }
 
-    /// How many pairs have come so far and no further.
+    /// How many pairs are in a state.
     pub fn pairs(&self, state: PairState) -> u32
         ensures { result ≡ length (pairs_in self.now.setup self.now.entries state) }
     {
@@ -232,7 +233,7 @@ impl Book {
         self.pay_ins.has(c, k)
     }
 
-    /// Walks over the matched pairs, at the operator's word.
+    /// Walks over the matched pairs, as the operator asks.
     fn settle(&mut self, most: u32) -> Result<Reply, AllocError>
         requires { self.old.applied < 65535 }
         ensures answer { IfOk result (λ reply. reply ≡ answer_to self.old 0 (Settle most)) }
@@ -305,6 +306,7 @@ impl Book {
         Ok(())
     }
 
+    /// The answer to a client's command.
     #[tactic(auto, unfolding(crate::specs::Answer::answer))]
     fn answer(&self, client: u16, cmd: Cmd) -> Reply
         requires { is_walk client cmd ≡ false }
@@ -325,6 +327,7 @@ impl Book {
         }
     }
 
+    /// Answers an instruction.
     fn on_instruct(&self, client: u16, asked: Instruction) -> Reply
         ensures { result ≡ on_instruct self.now.setup self.now.entries client asked }
     {
@@ -347,7 +350,7 @@ impl Book {
         }
     }
 
-    /// Answers an instruction under a reference that has a pair, or has none.
+    /// Answers an instruction whose earlier tests passed, by the pair of its reference, if there is one.
     fn on_mirror(&self, client: u16, asked: Instruction) -> Reply
         ensures { result ≡ on_mirror self.now.setup self.now.entries client
             (pair_of self.now.entries asked.reference) asked }
@@ -369,6 +372,7 @@ impl Book {
         }
     }
 
+    /// Answers a rescission.
     fn on_rescind(&self, client: u16, reference: u32) -> Reply
         ensures { result ≡ on_rescind self.now.setup self.now.entries client reference }
     {
@@ -381,7 +385,7 @@ impl Book {
         }
     }
 
-    /// Answers a rescission of a reference that has a pair, or has none.
+    /// Answers a rescission whose earlier tests passed, by the pair of its reference, if there is one.
     fn on_pair(&self, client: u16, reference: u32) -> Reply
         ensures { result ≡ on_pair self.now.setup self.now.entries client
             (pair_of self.now.entries reference) }
@@ -400,6 +404,7 @@ impl Book {
         }
     }
 
+    /// Answers a node's report of a pay-in.
     fn on_fund(&self, client: u16, c: u8, pay: u32, member: u16, amt: u64) -> Reply
         ensures { result ≡ on_fund self.now.setup self.now.entries client c pay member amt }
     {
@@ -418,6 +423,7 @@ impl Book {
         }
     }
 
+    /// Answers a member's request for a pay-out.
     fn on_pay_out(&self, client: u16, c: u8, amt: u64) -> Reply
         ensures { result ≡ on_pay_out self.now.setup self.now.entries client c amt }
     {
@@ -440,7 +446,7 @@ impl Book {
         }
     }
 
-    /// Whether a member still passes its tests once an amount of a currency is paid out.
+    /// Whether a member still passes its tests after an amount of a currency is paid out.
     fn passes_after(&self, m: u16, c: u8, amt: u64) -> bool
         requires member { has_member self.now.setup m ≡ true }
         requires known { has_currency self.now.setup c ≡ true }
@@ -452,7 +458,7 @@ impl Book {
         self.accounts.passes_less(&self.setup, m, c, amt)
     }
 
-    /// Answers a node's word on an order, that it paid it or returned it.
+    /// Answers a node's report that it paid or returned an order.
     fn on_end(&self, client: u16, c: u8, out: u32) -> Reply
         ensures { result ≡ on_end self.now.setup self.now.entries client c out }
     {
@@ -469,6 +475,7 @@ impl Book {
         }
     }
 
+    /// Whether a currency has an order of this number.
     fn has_order(&self, c: u8, out: u32) -> bool
         ensures { result ≡ has_order self.now.entries c out }
     {
@@ -482,12 +489,14 @@ impl Book {
         self.table.has_ended(c, out)
     }
 
+    /// Whether the setup has a member of this number.
     fn has_member(&self, m: u16) -> bool
         ensures { result ≡ has_member self.now.setup m }
     {
         has_member(&self.setup, m)
     }
 
+    /// Whether the setup has a currency of this number.
     fn has_currency(&self, c: u8) -> bool
         ensures { result ≡ has_currency self.now.setup c }
     {
@@ -495,13 +504,14 @@ impl Book {
     }
 }
 
+/// Whether an answer is a refusal.
 fn is_refusal(reply: Reply) -> bool
     ensures { result ≡ is_refusal reply }
 {
     matches!(reply, Reply::No(_))
 }
 
-/// Whether two pairs have the same sides and the same words.
+/// Whether two pairs have the same sides, currencies and amounts.
 fn is_same_trade(pair: &Pair, asked: &Pair) -> bool
     ensures { result ≡ is_same_trade pair.now asked.now }
 {

@@ -1,4 +1,4 @@
-//! What a book keeps of each pair, to be looked up by reference.
+//! What a book keeps of each pair, found by its reference.
 ghost use Rattle.std.specs.Prelude.{◌≡◌, ◌≢◌, ◌<◌, ◌≤◌, None, filter, nat_eq, slice_get, IfOk, IfSome, OnOk, OnErr};
 ghost use Rattle.std.specs.Map.{lookup};
 ghost use Rattle.std.specs.Option.{option_map};
@@ -15,7 +15,7 @@ use indexmap::IndexMap;
 use pvp_types::{Cmd, Reply};
 use std::alloc::{AllocError, Global};
 
-/// A pair, with what came of it.
+/// A pair, with what became of it.
 #[derive(Clone, Copy, Debug, PartialEq, Eq)]
 pub struct KeptPair {
     pub pair: Pair,
@@ -45,14 +45,14 @@ impl KeptPair {
         }
     }
 
-    /// Whether it was taken back: a matched one by both sides, an unmatched one by its first.
+    /// Whether it was taken back: if it is matched, by both sides; otherwise by its first.
     pub fn is_back(&self) -> bool
         ensures { result ≡ is_back self.now }
     {
         self.first_back && (self.second_back || !self.matched)
     }
 
-    /// How far it has come.
+    /// Its state.
     pub fn state(&self) -> PairState
         ensures { result ≡ state_kept self.now }
     {
@@ -67,21 +67,21 @@ impl KeptPair {
         }
     }
 
-    /// Whether a client is a side of it: the first, or where it is matched the second.
+    /// Whether a client is a side of it: the first side, or the second if it is matched.
     pub fn is_side(&self, client: u16) -> bool
         ensures { result ≡ is_side_kept self.now client }
     {
         client == self.pair.first || (client == self.pair.second && self.matched)
     }
 
-    /// Whether it waits, where it is matched: it is neither settled nor taken back by both sides.
+    /// Whether it waits, if it is matched: it is neither settled nor taken back by both sides.
     fn still_waits(&self) -> bool
         ensures { result ≡ still_waits self.now }
     {
         !self.settled && !(self.first_back && self.second_back)
     }
 
-    /// The same once an entry that names its reference is noted.
+    /// The pair after an entry that names its reference is noted.
     fn with_noted(self, entry: &Entry) -> Self
         ensures { result ≡ noted_by entry.now.client entry.now.cmd entry.now.reply self }
     {
@@ -100,7 +100,7 @@ impl KeptPair {
     }
 }
 
-/// The reference that a command names, of which alone it may move the pair.
+/// The reference that a command names: the only pair that it may change is the one of this reference.
 pub fn named_by(entry: &Entry) -> Option<u32>
     ensures { result ≡ named_by entry.now.cmd }
 {
@@ -111,9 +111,9 @@ pub fn named_by(entry: &Entry) -> Option<u32>
     }
 }
 
-/// Notes an entry in the pair that it names: in what is kept of pairs, in the line of matched ones,
-/// and in how many are in each state. An entry that names no pair changes nothing there, and takes no
-/// memory. Nor does an `Err` change anything, which only want of memory gives.
+/// Notes an entry in the pair that it names: in what is kept of pairs, in the line of matched ones, and in how many
+/// are in each state. An entry that names no pair changes nothing there, and takes no memory. An `Err`, which only
+/// lack of memory gives, changes nothing either.
 pub fn note_in_pair(
     pairs: &mut IndexMap<u32, KeptPair>,
     line: &mut Vec<Pair>,
@@ -150,7 +150,7 @@ pub fn find_pair(pairs: &IndexMap<u32, KeptPair>, named: Option<u32>) -> Option<
     pairs.get(&named?).copied()
 }
 
-/// What is kept of a pair once an entry that names its reference is noted, which may open it.
+/// What is kept of a pair after an entry that names its reference is noted. The entry may open the pair.
 pub fn note_pair(before: Option<KeptPair>, entry: &Entry) -> Option<KeptPair>
     ensures { result ≡ pair_noted entry.now.client entry.now.cmd entry.now.reply before }
 {
@@ -160,7 +160,7 @@ pub fn note_pair(before: Option<KeptPair>, entry: &Entry) -> Option<KeptPair>
     }
 }
 
-/// What is kept of a pair once it is settled.
+/// What is kept of a pair after it is settled.
 pub fn settle_pair(before: Option<KeptPair>) -> Option<KeptPair>
     ensures { result ≡ option_map once_settled before }
 {
@@ -170,14 +170,14 @@ pub fn settle_pair(before: Option<KeptPair>) -> Option<KeptPair>
     })
 }
 
-/// How far a pair has come; `None` where there is none.
+/// The state of a pair; `None` where there is none.
 pub fn state_of(kept: Option<KeptPair>) -> Option<PairState>
     ensures { result ≡ option_map state_kept kept }
 {
     Some(kept?.state())
 }
 
-/// Keeps a pair under its reference, in place of what was kept of it.
+/// Keeps a pair under its reference, in place of what was kept there.
 pub fn put_pair(pairs: &mut IndexMap<u32, KeptPair>, kept: Option<KeptPair>)
     requires room { IfSome kept (λ k.
         lookup (nat_eq k.pair.reference) pairs.old.entries ≡ None → 0 < spare pairs.old) }
@@ -188,7 +188,7 @@ pub fn put_pair(pairs: &mut IndexMap<u32, KeptPair>, kept: Option<KeptPair>)
     }
 }
 
-/// Whether a matched pair waits, by what is kept of it.
+/// Whether a matched pair waits, as kept.
 fn is_waiting(pairs: &IndexMap<u32, KeptPair>, pair: &Pair) -> bool
     ensures { result ≡ is_waiting pairs.now.entries pair.now }
 {
@@ -198,7 +198,7 @@ fn is_waiting(pairs: &IndexMap<u32, KeptPair>, pair: &Pair) -> bool
     }
 }
 
-/// Those of a line of matched pairs that wait, in their order.
+/// The pairs of a line of matched pairs that wait, in their order.
 pub fn waiting_pairs(
     alloc: Global,
     line: &[Pair],
@@ -213,7 +213,7 @@ pub fn waiting_pairs(
         .collect(alloc)
 }
 
-/// The waiting pair at a place among those of a line that wait.
+/// The pair at a place, counted from 0, among those of a line that wait.
 pub fn waiting_at(line: &[Pair], pairs: &IndexMap<u32, KeptPair>, at: usize) -> Option<Pair>
     ensures { result ≡ slice_get (filter (λ p. is_waiting pairs.now.entries p) line.now) at }
 {

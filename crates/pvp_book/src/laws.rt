@@ -1,19 +1,19 @@
-//! What is so of every book that a history of commands leaves, accepted and refused ones alike: functions that do
-//! nothing, whose contracts say it of the definitions.
+//! What holds of every book that a history of commands leaves, whether they were accepted or refused: functions that
+//! do nothing, whose contracts say it of the definitions.
 ghost use Rattle.std.specs.Prelude.{ℕ, List, ◌++◌};
 ghost use Rattle.pvp_types.specs.declared.setup.Setup.{Setup};
 ghost use Rattle.pvp_book.specs.Answer.{Row, book_of};
 ghost use Rattle.pvp_book.specs.Laws.{BothLegs, IsCovered, AreOrdered, PayInsOnce, Begins, IsOnePass};
 
-/// Each settled pair is settled once, was instructed by both sides and not taken back by both, and gives
-/// all four of its amounts: two in each of its two currencies, which come to 0. Every balance is pay-ins
-/// less pay-outs and these amounts; no other pair gives any.
+/// Each settled pair is settled once, was instructed by both sides and not taken back by both, and posts all four of
+/// its amounts: two in each of its two currencies, whose sum is 0. Every balance is pay-ins less pay-outs, with what
+/// was returned, and these amounts; no other pair posts any.
 pub fn both_legs()
     ensures { (setup : Setup) (history : List Row) → BothLegs setup (book_of setup history) }
 {}
 
-/// The bank's figure in a currency is what nodes paid in less what members had paid out, with what
-/// was returned, and never below 0: the bank pays out no more than it holds.
+/// The bank's figure in a currency is what nodes paid in less what members had paid out, with what was returned, and
+/// is never below 0: the bank pays out no more than it holds.
 pub fn figure_is_funds_minus_pay_outs()
     ensures { (setup : Setup) (history : List Row) (c : ℕ) →
         IsCovered setup (book_of setup history) c }
@@ -36,8 +36,8 @@ pub fn books_grow()
         Begins (book_of setup first) (book_of setup (first ++ more)) }
 {}
 
-/// A walk takes the candidates of which each is taken exactly where fewer than `most` earlier ones were
-/// and both its members pass with those and it; there is one such list.
+/// A walk takes a candidate exactly if it has taken fewer than `most` earlier ones and both members of the candidate
+/// pass with those and it settled. There is exactly one such list.
 pub fn one_pass()
     ensures { (setup : Setup) (history : List Row) (most : ℕ) →
         IsOnePass setup (book_of setup history) most }

@@ -1,3 +1,4 @@
+//! The open orders of a currency, and of all currencies.
 ghost use Rattle.std.specs.Prelude.{◌≡◌, ℕ, ◌≤◌, length, slice_get};
 ghost use Rattle.pvp_book.specs.Open.{outstanding_at};
 ghost use Rattle.pvp_book.specs.OrderTable.{open_at};
@@ -13,13 +14,14 @@ pub struct OpenOrders<'a> {
     /// What is kept of the orders.
     table: &'a OrderTable,
     ccy: u8,
-    /// How many were given.
+    /// How many orders the iterator has given.
     given: usize,
 }
 
 impl<'a> OpenOrders<'a> {
     ghost use Rattle.pvp_book.specs.Open.{orders_left};
 
+    /// All open orders of a currency, none of them given yet.
     pub(crate) fn new(table: &'a OrderTable, ccy: u8) -> Self
         ensures { orders_left result ≡ open_at table.now ccy }
     {
@@ -48,7 +50,7 @@ impl<'a> Iterator for OpenOrders<'a> {
     }
 }
 
-/// The order at a place among the open ones of the first currencies, and the client number of its
+/// The order at a place, counted from 0, among the open ones of the first currencies, with the client number of its
 /// node.
 pub(crate) fn outstanding_at(
     table: &OrderTable,

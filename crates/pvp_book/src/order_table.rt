@@ -17,7 +17,7 @@ pub struct KeptOrder {
     pub ended: bool,
 }
 
-/// The orders of all currencies, so that none is looked for among the entries.
+/// The orders of all currencies, so that finding one takes no search of the entries.
 #[derive(Debug, Drop)]
 pub struct OrderTable {
     /// Those of each currency by number: they are numbered from 1, in the order in which they were
@@ -91,8 +91,8 @@ impl OrderTable {
             .map_or(0, VecDeque::len)
     }
 
-    /// Makes room for what one more entry adds. An `Err`, which only want of memory gives, leaves the
-    /// orders.
+    /// Makes room for what one more entry adds. An `Err`, which only lack of memory gives, leaves the orders as they
+    /// were.
     pub fn reserve(&mut self, entry: &Entry) -> Result<(), AllocError>
         requires known { IsCounted (step_of entry.now.client entry.now.cmd entry.now.reply) }
         requires places { length self.old.made ≡ 8 }
@@ -127,7 +127,7 @@ impl OrderTable {
         }
     }
 
-    /// Adds an order of the next number.
+    /// Adds an order with the next number.
     fn make(&mut self, order: PayOrder)
         requires room { (0 < room_at self.old order.ccy) × (0 < open_room_at self.old order.ccy) }
         requires known { order.ccy < 8 }
@@ -148,7 +148,7 @@ impl OrderTable {
         self.outstanding[usize::from(order.ccy)].push_back_reserved(order);
     }
 
-    /// Notes an order as paid or returned, which is open no longer.
+    /// Notes an order as paid or returned: it is open no longer.
     fn end(&mut self, ccy: u8, out: u32)
         requires there { is_some (kept_order self.old ccy out) ≡ true }
         requires known { ccy < 8 }
@@ -198,6 +198,7 @@ enum Step {
     Nothing,
 }
 
+/// What an entry does to the orders.
 fn step_of(entry: &Entry) -> Step
     ensures { result ≡ step_of entry.now.client entry.now.cmd entry.now.reply }
 {

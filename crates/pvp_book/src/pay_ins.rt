@@ -1,4 +1,4 @@
-//! Which pay-ins a book has, to be looked up by number.
+//! Which pay-ins a book has, found by their numbers.
 ghost use Rattle.std.specs.Prelude.{◌≡◌, ℕ, ◌<◌, ◌++◌, ◌∷◌, [], List, OnOk, ◌==◌, ◌&&◌, ◌||◌};
 ghost use Rattle.std.specs.HashSet.{spare};
 ghost use Rattle.pvp_book.specs.declared.entry.Entry.{Entry as Noted};
@@ -10,10 +10,11 @@ use pvp_types::Cmd;
 use std::alloc::{AllocError, Global};
 use std::collections::HashSet;
 
-/// The numbers of the pay-ins that came. A node numbers its own 1, 2, 3 and so on, so most are noted by the last alone.
+/// The numbers of the pay-ins that came. A node numbers its own 1, 2, 3 and so on, so for most the last number is
+/// enough.
 #[derive(Debug, Drop)]
 pub struct PayIns {
-    /// Of each currency the number up to which all came.
+    /// For each currency the number up to which all came.
     up_to: [u32; 8],
     /// The others, by currency and number.
     others: HashSet<(u8, u32)>,
@@ -39,7 +40,7 @@ impl PayIns {
         (0 < k && k <= up_to) || (!self.others.is_empty() && self.others.contains(&(c, k)))
     }
 
-    /// Makes room for one more. An `Err`, which only want of memory gives, leaves what came.
+    /// Makes room for one more. An `Err`, which only lack of memory gives, leaves the pay-ins as they were.
     pub fn reserve(&mut self) -> Result<(), AllocError>
         ensures room { OnOk result (0 < spare self.new.others) }
         ensures same { (entries : List Noted) → ArePaidIn entries self.old →

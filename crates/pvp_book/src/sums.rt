@@ -1,3 +1,4 @@
+//! Orders and returns, found among the entries.
 ghost use Rattle.std.specs.Prelude.{◌≡◌};
 ghost use Rattle.pvp_book.specs.Orders.{order_by, is_return, has_return};
 ghost use Rattle.pvp_book.specs.Answer.{has_order};
@@ -12,6 +13,7 @@ pub fn has_return(entries: &[Entry], c: u8, n: u32) -> bool
     entries.iter().any(|e| is_return(e, c, n))
 }
 
+/// Whether an entry returns a currency's order of this number.
 fn is_return(entry: &Entry, c: u8, n: u32) -> bool
     ensures { result ≡ is_return c n entry.now.cmd }
 {

@@ -1,4 +1,4 @@
-//! How many pairs have come how far.
+//! How many pairs are in each state.
 ghost use Rattle.std.specs.Prelude.{◌≡◌, ◌<◌, ◌≤◌, ◌+◌, IfSome};
 ghost use Rattle.pvp_book.specs.declared.pair.PairState.{PairState as State};
 ghost use Rattle.pvp_book.specs.Tally.{kept_count, is_at};
@@ -39,7 +39,7 @@ impl Tally {
         }
     }
 
-    /// The tally once a pair that was in one state, or was not there, is in another.
+    /// The tally after a pair moved from one state, or from not being there, to another.
     pub fn after_move(&self, before: Option<PairState>, after: Option<PairState>) -> Tally
         requires there { (state : State) → is_at before state ≤ kept_count self.now state }
         requires few { (state : State) → kept_count self.now state ≤ 65535 }
@@ -55,7 +55,7 @@ impl Tally {
         }
     }
 
-    /// How many are in a state once a pair moved.
+    /// How many are in a state after a pair moved.
     fn step(&self, state: PairState, before: Option<PairState>, after: Option<PairState>) -> u32
         requires there { is_at before state ≤ kept_count self.now state }
         requires few { kept_count self.now state ≤ 65535 }
@@ -65,7 +65,7 @@ impl Tally {
     }
 }
 
-/// 1 where a pair is in a state.
+/// 1 if a pair is in a state, else 0.
 fn one_at(pair: Option<PairState>, state: PairState) -> u32
     ensures value { result ≡ is_at pair state }
     ensures small { result ≤ 1 }

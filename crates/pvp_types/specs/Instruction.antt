@@ -1,4 +1,4 @@
--- Instructions.
+-- The mirror of an instruction.
 use Rattle.std.specs.Prelude.{ℕ}
 use Rattle.pvp_types.specs.declared.command.Instruction.{Instruction}
 

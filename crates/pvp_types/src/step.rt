@@ -1,7 +1,8 @@
+//! The steps of a bank, as scripts and runs have them.
 use crate::command::Cmd;
 
-/// What may be done to a bank. Currencies are numbered from 0 and members from 1; an actor's number
-/// is a client's own, 101 and its currency's for a node, and 200 and its own for a site.
+/// What may be done to a bank. Currencies are numbered from 0 and members from 1. As an actor, a client has its own
+/// number, a node 101 plus its currency's, and a site 200 plus its own.
 #[derive(Clone, Copy, Debug, PartialEq, Eq)]
 pub enum Step {
     /// The envelope of this number, counted from 1, comes to the actor that it is addressed to.
@@ -12,7 +13,7 @@ pub enum Step {
     Close { ccy: u8, member: u16 },
     /// A client asks for this.
     Submit { client: u16, cmd: Cmd },
-    /// It is time for an actor to say again what may have been lost.
+    /// It is time for an actor to send again what may have been lost.
     Beat(u16),
     /// A site's timer runs out.
     Timer(u16),

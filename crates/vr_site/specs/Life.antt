@@ -26,7 +26,7 @@ pub record Volatile (C : Type 0) : Type 0 where
   pub responses : List (Response C)
   pub known : List ℕ
 
--- of a site that has no log: what it knows of boots, and the responses that it keeps
+-- the volatile state of a site without a log: the boot numbers that it knows, and the responses that it keeps
 abbrev pub resting : {C : Type 0} → Status → List ℕ → List (Response C) → Volatile C
 resting status known responses = record {
   status = status;
@@ -42,15 +42,15 @@ resting status known responses = record {
   known = known;
 }
 
--- of a site that is down
+-- that of a site that is down
 abbrev pub lost : {C : Type 0} → Volatile C
 lost = resting status.Down [] []
 
--- of a site that recovers
+-- that of a site that recovers
 abbrev pub awaiting : {C : Type 0} → RecoveringOf C → Volatile C
 awaiting r = resting status.Recovering r.known (responses_of r.responses.items)
 
--- of a site that is normal or in change
+-- that of a site that is normal or in change
 abbrev pub running_volatile : {H C R O S : Type 0} → Running H C R O S → Volatile C
 running_volatile r = record {
   status = r.status;
@@ -66,13 +66,13 @@ running_volatile r = record {
   known = r.known;
 }
 
--- what is shown of it
+-- the volatile state of a life
 abbrev pub volatile_of : {H C R O S : Type 0} → Life H C R O S → Volatile C
 volatile_of Down = lost
 volatile_of (Recovering r) = awaiting r
 volatile_of (Up r) = running_volatile r.value
 
--- the site that it is of, over this cell, where these acknowledgements came
+-- the site with this volatile state, over this cell, where these acknowledgements came
 abbrev pub site_with : {C : Type 0} → Volatile C → List Ack → Boot → Site C
 site_with v acks cell = record {
   status = v.status;
@@ -85,7 +85,7 @@ site_with v acks cell = record {
   cell = cell;
 }
 
--- What runs is sound, and so is what a recovering site keeps.
+-- The running state is sound, and so is what a recovering site keeps.
 abbrev pub IsWell : {H C R O S : Type 0} → Ghosts H C R O S → H → ℕ → Life H C R O S → Type 0
 IsWell m start f Down = Unit {0}
 IsWell m start f (Recovering r) = IsSoundRecovering f r

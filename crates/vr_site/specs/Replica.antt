@@ -43,14 +43,14 @@ with_cell v cell = record { f = v.f; me = v.me; setup = v.setup; cell = cell; vo
 abbrev pub site_shown : {C S B : Type 0} → (B → Boot) → ShownSite C S B → List Ack → Site C
 site_shown held v acks = site_with v.volatile acks (held v.cell)
 
--- its place in the group stays, and what it was made from
+-- its place in the group stays, and so does what it was made from
 pub record KeepsPlace {C S B : Type 0} (old new : ShownSite C S B) : Type 0 where
   pub f : new.f ≡ old.f
   pub me : new.me ≡ old.me
   pub setup : new.setup ≡ old.setup
 
 -- What was done is the step: what is shown is the site after it, the outcome is the step's, and the rest is as before.
--- The cell is saved where it held another value, and there once.
+-- The cell is saved at most once, and only if it held another value.
 pub record Does {H C R O S B : Type 0} (m : Ghosts H C R O S) (c : Cell B) (old new : ShownSite C S B)
     (out : OutcomeOf C R O) (step : Step C R O) : Type 0 where
   pub f : new.f ≡ old.f
@@ -62,8 +62,8 @@ pub record Does {H C R O S B : Type 0} (m : Ghosts H C R O S) (c : Cell B) (old 
   pub sent : out.sent.items ≡ envelopes m (m.start old.setup) old.me step
   pub ending : step.ending ≡ ended out.dropped
 
--- The site fell in place of the step, only where the event is handled and not dropped: for want of memory, or as the
--- one save of the step's value failed.
+-- The site fell in place of the step, only where the event is handled and not dropped: for lack of memory, or because
+-- the one save of the step's value failed.
 pub record Falls {C R O S B : Type 0} (c : Cell B) (old new : ShownSite C S B) (x : Site C) (step : Step C R O)
     (why : SiteFault) : Type 0 where
   pub f : new.f ≡ old.f
@@ -93,8 +93,8 @@ pub record Handles {H C R O S B : Type 0} (m : Ghosts H C R O S) (c : Cell B) (o
       Falls c old new (site_shown c.held old acks) (site_step choose old.f old.me (site_shown c.held old acks) event)
       fault)
 
--- What ran follows the step of an event that is not refused: what runs by now, and what was done. The step saves
--- nothing.
+-- A running site follows the step of an event that is not refused, with its running state afterwards and what was
+-- done. The step saves nothing.
 pub record Serves {H C R O S : Type 0} (m : Ghosts H C R O S) (start : H) (f me : ℕ) (cell : Boot)
     (old new : Running H C R O S) (done : Result (OutcomeOf C R O) AllocError) (event : EventOf C R O) : Type 0 where
   pub sound : IsSound m start f old
@@ -104,7 +104,7 @@ pub record Serves {H C R O S : Type 0} (m : Ghosts H C R O S) (start : H) (f me 
   pub saves : (choose : Choice C) (acks : List Ack)
       → (on_event choose f me (site_of old acks cell) event).site.cell ≡ cell
 
--- What was kept follows the step of an event that is not refused: what is kept by now, and what came of it.
+-- A recovering site follows the step of an event that is not refused, with what it keeps afterwards and the result.
 pub record Awaits {H C R O S : Type 0} (f me : ℕ) (cell : Boot) (old new : RecoveringOf C)
     (progress : Result (Progress H C R O S) AllocError) (event : EventOf C R O) : Type 0 where
   pub allowed : refusal f me (recovering_site old [] cell) event ≡ None

@@ -1,4 +1,4 @@
--- What becomes of a cell at an event.
+-- What an event does to a boot cell.
 use Rattle.std.specs.Prelude.{◌≡◌, ◌≢◌, ◌⊎◌}
 use Rattle.vr_types.specs.declared.cell.Boot.{Boot}
 use Rattle.vr_types.specs.declared.cell.BootCell.{Ghosts}

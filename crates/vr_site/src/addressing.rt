@@ -1,9 +1,10 @@
+//! Which envelopes a site takes: those addressed to it, from actors that may send it such a message.
 ghost use Rattle.std.specs.Prelude.{◌≡◌, ◌-◌};
 ghost use Rattle.vr_types.specs.Group.{is_of_all as is_told_of_all, is_other_site as is_number_of_other, may_send as may_come, is_mine as is_addressed, site_of};
 
 use vr_types::{Config, EnvelopeOf, FIRST_SITE, Known, MsgOf, is_client};
 
-/// Whether an envelope is for this site, from an actor that may send it that.
+/// Whether an envelope is for this site, from an actor that may send it such a message.
 pub(crate) fn is_mine<C, R, O>(config: Config, envelope: &EnvelopeOf<C, R, O>) -> bool
     ensures { result ≡ is_addressed config.f config.me envelope.now }
 {
@@ -44,7 +45,7 @@ fn is_other_site(config: Config, actor: u16) -> bool
     FIRST_SITE <= actor && actor <= FIRST_SITE + 2 * config.f && actor != FIRST_SITE + config.me
 }
 
-/// Whether what a sender knew of boots is told of each site of the group, and of none else.
+/// Whether a list of boot numbers has one for each site of the group, and no other.
 fn is_of_all(config: Config, known: &Known) -> bool
     ensures { result ≡ is_told_of_all config.f known.now }
 {

@@ -1,10 +1,10 @@
 //! What holds of any number of replicas, under every legal list of what may happen to them, for every machine, every
-//! number of sites and every opening: functions that do nothing, whose contracts say it. The lists are made of the very
-//! steps that a replica takes as it handles an event.
+//! number of sites and every opening: functions that do nothing, whose contracts say it. The lists are made of the
+//! same steps that a replica takes as it handles an event.
 //!
-//! A `LegalList` is any list of deliveries, losses, repeats, timers, beats, crashes, restarts and falls that may happen
-//! to 2f+1 sites over boot cells of any value, with the world that it leads to; `Continued` is any way in which it goes
-//! on. Each promise is a word of `Promises.antt` of the crate `agreement`.
+//! A `LegalList` is any list of deliveries, losses, repeats, timers, beats, crashes, restarts and falls that may
+//! happen to 2f+1 sites over boot cells of any value, with the world that it leads to; `Continued` is any continuation
+//! of it. Each promise is defined in `Promises.antt` of the crate `agreement`.
 
 ghost use Rattle.std.specs.Prelude.{◌≡◌, ℕ, ◌++◌, All};
 ghost use Rattle.vr_types.specs.declared.cell.Boot.{Boot};
@@ -52,9 +52,9 @@ pub fn agreement<M: Machine>()
     agreement::lasting::<M::Cmd, M::Reply, M::Order>();
 }
 
-/// A site that ever sent a DOVIEWCHANGE runs in no view below it, whether or not it restarted since. Of the messages that a
-/// site collects, none's sender knew a later boot of another's sender than that one's message is of; nor of those by which
-/// a step opens a view or regains a state.
+/// A site that ever sent a DOVIEWCHANGE runs in no view below it, whether or not it restarted since. For any two
+/// messages that a site collects, the sender of one knew no later boot of the sender of the other than the one that
+/// the other is of; the same holds of the messages by which a step opens a view or regains a state.
 pub fn binding<M: Machine>()
     ensures bind { (f : ℕ) (list : LegalList M.Cmd M.Reply M.Order f) → VotesBind list.world }
     ensures fresh { (f : ℕ) (list : LegalList M.Cmd M.Reply M.Order f) →

@@ -1,3 +1,4 @@
+//! A site of a replicated machine, over its boot cell: the one call that handles an event, and what can be read of it.
 ghost use Rattle.std.specs.Prelude.{◌≡◌, ◌≢◌, ◌+◌, ◌-◌, ◌==◌, ◌&&◌, not, ◌⊎◌, [], List, All, IfOk, OnOk, IfErr, OnErr, IsOk, IsErrOf, Some, None, true, length, slice_get, IsSome, IfSome, ◌↔◌, if◌then◌else◌, take};
 ghost use Rattle.vr_types.specs.declared.cell.Boot.{Boot};
 ghost use Rattle.vr_types.specs.declared.event.EventOf.{EventOf as AnyEvent};
@@ -33,7 +34,7 @@ use vr_types::{
 #[derive(Drop)]
 pub struct Replica<M: Machine, C: BootCell> {
     config: Config,
-    /// What the machine is made from, at a restart again.
+    /// What the machine is made from, also after a restart.
     setup: M::Setup,
     cell: C,
     life: Life<M>,
@@ -58,7 +59,8 @@ impl<M: Machine, C: BootCell> Replica<M, C> {
     ghost use Rattle.vr_types.specs.Step.{Dropped};
     ghost use Rattle.vr_site.specs.Replica.{site_shown, with_cell, KeepsPlace, Falls, Handles, Serves, Awaits};
 
-    /// A site over a cell: over a new one it is normal in view 0 with an empty log, over any other it is down.
+    /// A site over a cell: over a new cell it is normal in view 0 with an empty log, over any other it is down. `Err`
+    /// where memory is refused.
     pub fn new(alloc: Global, config: Config, setup: M::Setup, cell: C) -> Result<Self, AllocError>
         requires { M.admits setup }
         ensures parts { IfOk result (λ site. (site.f ≡ config.f) × (site.me ≡ config.me)
@@ -84,7 +86,7 @@ impl<M: Machine, C: BootCell> Replica<M, C> {
         })
     }
 
-    /// The same site over another cell, which holds what its own does.
+    /// The same site over another cell, which holds what the present one holds.
     pub fn over<D: BootCell>(self, cell: D) -> Replica<M, D>
         requires { D.held cell ≡ C.held self.cell }
         ensures is { result ≡ with_cell self cell }
@@ -100,7 +102,7 @@ impl<M: Machine, C: BootCell> Replica<M, C> {
     }
 
     /// Handles an event: takes the site's step, and answers the envelopes that it sends, in order, or why the event is
-    /// dropped. The nonce of a RECOVERY was saved before.
+    /// dropped. The nonce of a RECOVERY was saved before it is sent.
     ///
     /// `NotUp`, `AlreadyUp`, `ViewsSpent`, `BootsSpent` and `NotMine` are answered exactly where the site refuses the
     /// event, which then changes nothing. `NoMemory` and `CellFault` leave the site down with nothing sent; the cell
@@ -109,7 +111,7 @@ impl<M: Machine, C: BootCell> Replica<M, C> {
     pub fn handle(&mut self, alloc: Global, event: Event<M>) -> Result<Outcome<M>, SiteFault>
         // The step, the refusals and the falls.
         ensures handles { Handles M.Machine C.BootCell self.old self.new event result }
-        // Its place in the group stays, and what it was made from.
+        // Its place in the group stays, and so does what it was made from.
         ensures place { KeepsPlace self.old self.new }
         // A crash takes no memory, nor does an event that is dropped.
         ensures crash { event ≡ AnyEvent.Crash → self.old.volatile.status ≢ Status.Down →
@@ -124,7 +126,7 @@ impl<M: Machine, C: BootCell> Replica<M, C> {
         ensures saved_first { IfOk result
             (λ out. All (λ envelope. IsSavedFor (C.held self.new.cell) envelope.msg)
             out.sent.items) }
-        // A cell's fault has a cause, and a save that failed is told.
+        // A cell's fault has a cause, and a save that failed is reported.
         ensures cause { IsErrOf result SiteFault.CellFault →
             HasRisen (C.faults self.old.cell) (C.faults self.new.cell) }
         ensures counted { result ≢ Err SiteFault.CellFault →
@@ -161,7 +163,7 @@ impl<M: Machine, C: BootCell> Replica<M, C> {
         }
     }
 
-    /// Why an envelope is refused that is not for this site.
+    /// Why an envelope that is not for this site is refused.
     fn turned_away(&self) -> SiteFault
         ensures { result ≡ (if is_down self.now.volatile.status then SiteFault.NotUp
             else SiteFault.NotMine) }
@@ -172,7 +174,7 @@ impl<M: Machine, C: BootCell> Replica<M, C> {
         }
     }
 
-    /// Takes a message while it runs so.
+    /// Takes a message as the site with this running state.
     fn take_as_running(
         &mut self,
         alloc: Global,
@@ -199,7 +201,7 @@ impl<M: Machine, C: BootCell> Replica<M, C> {
         self.finish(running, done)
     }
 
-    /// Takes a message while it recovers so.
+    /// Takes a message as the site that recovers with this.
     fn take_as_recovering(
         &mut self,
         alloc: Global,
@@ -253,7 +255,7 @@ impl<M: Machine, C: BootCell> Replica<M, C> {
         }
     }
 
-    /// Says again what may have been lost.
+    /// Sends again what may have been lost.
     fn beat(&mut self, alloc: Global) -> Result<Outcome<M>, SiteFault>
         ensures handles { Handles M.Machine C.BootCell self.old self.new EventOf.Beat result }
         ensures place { KeepsPlace self.old self.new }
@@ -336,7 +338,7 @@ impl<M: Machine, C: BootCell> Replica<M, C> {
         }
     }
 
-    /// Whether the site is in the greatest view, as one that recovers is not.
+    /// Whether the site is in the greatest view; a recovering site never is.
     fn is_in_last_view(&self) -> bool
         ensures { result ≡ (not (is_recovering self.now.volatile.status)
             && (self.now.volatile.view == max_number)) }
@@ -354,14 +356,14 @@ impl<M: Machine, C: BootCell> Replica<M, C> {
         matches!(&self.life, Life::Down)
     }
 
-    /// Falls, as a site does that meets want of memory: all but the cell is lost. It takes no memory.
+    /// Falls, as a site does that lacks memory: all but the cell is lost. It takes no memory.
     pub fn fall(&mut self)
         ensures { self.new ≡ record self.old { volatile = lost } }
     {
         self.life = Life::Down;
     }
 
-    /// What runs goes on after what was done.
+    /// The site runs on after what was done, or falls.
     fn finish(
         &mut self,
         running: Box<Running<M>>,
@@ -388,7 +390,7 @@ impl<M: Machine, C: BootCell> Replica<M, C> {
         Ok(out)
     }
 
-    /// The site recovers still, or runs with what it regained.
+    /// The site is still recovering, or runs with what it regained, or falls.
     fn proceed(
         &mut self,
         alloc: Global,
@@ -491,7 +493,7 @@ impl<M: Machine, C: BootCell> Replica<M, C> {
         }
     }
 
-    /// The number of a client's newest row that is executed, 0 for none: it may be answered again.
+    /// The number of a client's newest executed row, 0 for none: the one that may be answered again.
     pub fn answered(&self, client: u16) -> u32
         ensures { result ≡ newest (take self.now.volatile.done self.now.volatile.log) client }
     {
@@ -535,7 +537,7 @@ impl<M: Machine, C: BootCell> Replica<M, C> {
     }
 }
 
-/// Saves what a restart is to find. A fault leaves the old value or the new one.
+/// Saves what a restart is to find. An `Err` leaves the old value or the new one.
 fn save<C: BootCell>(cell: &mut C, boot: Boot) -> Result<(), SiteFault>
     ensures ok { OnOk result (C.held cell.new ≡ boot) }
     ensures err { OnErr result ((C.held cell.new ≡ C.held cell.old) ⊎ (C.held cell.new ≡ boot)) }
@@ -551,7 +553,7 @@ fn save<C: BootCell>(cell: &mut C, boot: Boot) -> Result<(), SiteFault>
     }
 }
 
-/// What a site runs at first, over a new cell: it is normal in view 0 with an empty log.
+/// The running state of a site at first, over a new cell: it is normal in view 0 with an empty log.
 fn first<M: Machine>(
     alloc: Global,
     config: Config,

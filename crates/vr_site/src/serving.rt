@@ -1,3 +1,4 @@
+//! What a running site does with a message and at a beat.
 ghost use Rattle.std.specs.Prelude.{◌≡◌, ◌+◌, ◌*◌, OnOk, length, true};
 ghost use Rattle.vr_types.specs.Group.{may_send};
 ghost use Rattle.vr_types.specs.Handling.{on_message, on_beat};
@@ -10,7 +11,7 @@ use vr_log::send::{changes_view, dropped, silent};
 use vr_log::{Running, StartOf, VoteOf};
 use vr_types::{Config, Machine, Msg, MsgOf, Outcome, RowOf, Why};
 
-/// What a running site does with a message, of an actor that may send it. A log that comes is moved on, not copied.
+/// What a running site does with a message of an actor that may send it. The log in a message is moved, not copied.
 pub(crate) fn serve<M: Machine>(
     alloc: Global,
     config: Config,
@@ -67,7 +68,7 @@ pub(crate) fn serve<M: Machine>(
     }
 }
 
-/// What a running site says again at a beat.
+/// What a running site sends again at a beat.
 pub(crate) fn beat<M: Machine>(
     alloc: Global,
     config: Config,

@@ -1,3 +1,4 @@
+//! What a recovering site does with a message.
 ghost use Rattle.std.specs.Prelude.{◌≡◌, ◌==◌, List, true, IfOk, if◌then◌else◌};
 ghost use Rattle.vr_types.specs.Choice.{Choice, IsRight};
 ghost use Rattle.vr_types.specs.Group.{may_send, primary};
@@ -12,7 +13,7 @@ use vr_log::send::primary_of;
 use vr_recover::{Progress, Recovering, ResponseOf, take_response};
 use vr_types::{Boot, Config, Machine, Msg, MsgOf, Why};
 
-/// What a recovering site does with a message, of an actor that may send it: responses are taken, and all else is
+/// What a recovering site does with a message of an actor that may send it: responses are taken, and all else is
 /// dropped.
 pub(crate) fn await_state<M: Machine>(
     alloc: Global,
@@ -51,7 +52,8 @@ pub(crate) fn await_state<M: Machine>(
     }
 }
 
-/// Why a recovering site drops what the primary of a view alone may say: another's word comes first to nothing.
+/// Why a recovering site drops a message that only the primary of a view may send: `NotPrimary` where another site
+/// sent it, else `Status`.
 fn why_of(config: Config, from: u16, view: u32) -> Why
     ensures { result ≡ (if primary config.f view == from then Why.Status else Why.NotPrimary) }
 {
