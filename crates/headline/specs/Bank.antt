@@ -29,7 +29,7 @@ pub record Bank : Type 0 where
   pub clients : List Client  -- the operator, then the members
   pub post : List Envelope  -- numbered from 1
 
--- nothing was sent, and each site is over its cell
+-- before anything was sent, with each site over its cell
 abbrev pub opening_bank : Setup → ℕ → List Boot → Bank
 opening_bank setup f cells = record {
   sites = map (opening_site f) cells;

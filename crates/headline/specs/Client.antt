@@ -40,7 +40,7 @@ module _ (f me : ℕ) (x : Client) where
       if x.number == max_number then refuses x Spent
       else does (record { number = x.number + 1; waiting = Some cmd; answer = None }) (to_sites f me (x.number + 1) cmd)
 
-  -- a REPLY with the number of the request that waits answers it
+  -- a REPLY with the number of the request that waits is its answer
   abbrev pub on_reply : ℕ → Answer → Option Cmd → ClientStep
   on_reply number answer None = does x []
   on_reply number answer (Some cmd) =

@@ -1,4 +1,4 @@
--- What holds under every legal list. Its parts say nothing of views, votes or messages between sites.
+-- What holds under every legal list. Its parts do not mention views, votes or messages between sites.
 use Rattle.std.specs.Prelude.{◌≡◌, ℕ, ◌-◌, ◌≤◌, ◌==◌, true, false, List, length, take, slice_get, count_by, Contains, Some, pos, ◌+ℤ◌, ◌≤ℤ◌}
 use Rattle.pvp_types.specs.declared.setup.Setup.{Setup}
 use Rattle.pvp_types.specs.declared.command.Cmd.{Cmd}
@@ -29,7 +29,7 @@ abbrev pub RowsAgree : Bank → Bank → Type 0
 RowsAgree early late =
     (x y : Site Cmd) → Contains early.sites x → Contains late.sites y → Agree (executed_rows x) (executed_rows y)
 
--- and held the same book there
+-- and held the same book at that place
 abbrev pub BooksAgree : Setup → Bank → Bank → Type 0
 BooksAgree setup early late =
     (x y : Site Cmd) (n : ℕ) → Contains early.sites x → Contains late.sites y
@@ -42,7 +42,7 @@ BooksAgree setup early late =
 abbrev pub PairsAreWhole : Setup → Bank → Type 0
 PairsAreWhole setup bank = (x : Site Cmd) → Contains bank.sites x → BothLegs setup (executed_book setup x)
 
--- so the bank's figure in a currency is pay-ins less pay-outs with what was returned, and never below 0
+-- so the bank's figure in a currency is pay-ins less pay-outs plus what was returned, and never below 0
 abbrev pub FiguresAreCovered : Setup → Bank → Type 0
 FiguresAreCovered setup bank =
     (x : Site Cmd) (c : ℕ) → Contains bank.sites x → IsCovered setup (executed_book setup x) c
@@ -60,7 +60,7 @@ pub record IsPayIn (bank : Bank) (c k m amt : ℕ) : Type 0 where
   pub counted : 1 ≤ k
   pub is : slice_get node.pay_ins (k - 1) ≡ Some (record { member = m; amt = amt })
 
--- what a book credits was paid in
+-- a pay-in that a book credits was paid in
 abbrev pub CreditsWerePaidIn : Setup → Bank → Type 0
 CreditsWerePaidIn setup bank =
     (x : Site Cmd) (e : Entry) (c k m amt : ℕ) → Contains bank.sites x → Contains (executed_book setup x) e
@@ -77,7 +77,7 @@ pub record IsOrdered (setup : Setup) (bank : Bank) (c : ℕ) (order : PaymentOrd
   pub among : Contains bank.sites site
   pub ordered : Contains (orders (executed_book setup site) c) order
 
--- what a node has paid out was ordered at some moment
+-- an order that a node has paid out was ordered at some moment
 abbrev pub DoneWereOrdered : {setup : Setup} {f : ℕ} → LegalList setup f → Type 0
 DoneWereOrdered {setup} list =
     (c : ℕ) (x : Node) (order : PaymentOrder) → slice_get list.bank.nodes c ≡ Some x → Contains x.pay_outs order
@@ -89,13 +89,13 @@ pub record IsDone (bank : Bank) (c out : ℕ) : Type 0 where
   pub is_there : slice_get bank.nodes c ≡ Some node
   pub done : has_done node out ≡ true
 
--- what a book counts as paid is done
+-- an order that a book counts as paid is done at its node
 abbrev pub PaidAreDone : Setup → Bank → Type 0
 PaidAreDone setup bank =
     (x : Site Cmd) (c out : ℕ) → Contains bank.sites x → has_payment (executed_book setup x) c out ≡ true
     → IsDone bank c out
 
--- no book has two words on one order: it is paid once, or returned once
+-- no book has two reports on one order: it is paid once, or returned once
 abbrev pub EndedOnce : Setup → Bank → Type 0
 EndedOnce setup bank =
     (x : Site Cmd) (c out : ℕ) → Contains bank.sites x → count_by (λ e. is_end c out e.cmd) (executed_book setup x) ≤ 1
@@ -106,7 +106,7 @@ pub record IsReturned (bank : Bank) (c out : ℕ) : Type 0 where
   pub is_there : slice_get bank.nodes c ≡ Some node
   pub returned : has_returned node out ≡ true
 
--- what a book counts as returned is returned
+-- an order that a book counts as returned is returned at its node
 abbrev pub ReturnsAreReturned : Setup → Bank → Type 0
 ReturnsAreReturned setup bank =
     (x : Site Cmd) (c out : ℕ) → Contains bank.sites x → has_return (executed_book setup x) c out ≡ true
@@ -117,7 +117,7 @@ abbrev pub DoneOrReturned : Bank → Type 0
 DoneOrReturned bank =
     (c : ℕ) (x : Node) (out : ℕ) → slice_get bank.nodes c ≡ Some x → has_done x out ≡ true → has_returned x out ≡ false
 
--- ACCOUNT EQUALLED FIGURE ADJUSTED by the payments on the way; of a site that does not run, over an empty book
+-- ACCOUNT EQUALLED FIGURE ADJUSTED by the payments on the way; the book of a site that does not run is empty
 abbrev pub AccountsMatch : Setup → Bank → Type 0
 AccountsMatch setup bank =
     (x : Site Cmd) (c : ℕ) (n : Node) → Contains bank.sites x → slice_get bank.nodes c ≡ Some n
@@ -125,13 +125,14 @@ AccountsMatch setup bank =
 
 -- NO NODE IS EVER SHORT
 
--- what a book that was ever executed orders, and the node has neither done nor returned, is in the bank's account
+-- the orders of a book that was ever executed which the node has neither done nor returned are covered by the bank's
+-- account
 abbrev pub OrdersAreCovered : Setup → Bank → Bank → Type 0
 OrdersAreCovered setup early late =
     (x : Site Cmd) (c : ℕ) (n : Node) → Contains early.sites x → slice_get late.nodes c ≡ Some n
     → pos (not_known c n (executed_book setup x)) ≤ℤ account n
 
--- so no order that was sent is refused for want of money
+-- so no order that was sent is refused for lack of money
 abbrev pub NeverShort : Setup → ℕ → Bank → Type 0
 NeverShort setup f bank =
     (c : ℕ) (x : Node) (e : Envelope) → slice_get bank.nodes c ≡ Some x → Contains bank.post e

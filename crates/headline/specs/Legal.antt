@@ -25,7 +25,7 @@ use Rattle.headline.specs.declared.step.Turn.TheVariants.{OfSite, OfNode, OfClie
 use Rattle.headline.specs.Bank.{Bank, opening_bank, turn, with_site, with_node, with_client}
 
 module _ (setup : Setup) (choose : Choice Cmd) (f : ℕ) where
-  -- a site takes a step that it doesn't refuse
+  -- a site takes a step that it does not refuse
   pub record SiteActs (bank : Bank) (i : ℕ) (event : EventOf Cmd Answer PaymentOrder) (after : Bank) : Type 0 where
     pub before : Site Cmd
     pub is_there : slice_get bank.sites i ≡ Some before
@@ -33,21 +33,21 @@ module _ (setup : Setup) (choose : Choice Cmd) (f : ℕ) where
     pub leads : let step = site_step choose f i before event in
         after ≡ with_site bank i step.site (envelopes book (opening setup) i step)
 
-  -- so does a node
+  -- a node takes a step that it does not refuse
   pub record NodeActs (bank : Bank) (c : ℕ) (event : NodeEvent) (after : Bank) : Type 0 where
     pub before : Node
     pub is_there : slice_get bank.nodes c ≡ Some before
     pub allowed : (node_step setup f c before event).fault ≡ None
     pub leads : let step = node_step setup f c before event in after ≡ with_node bank c step.node step.sent
 
-  -- and a client
+  -- a client takes a step that it does not refuse
   pub record ClientActs (bank : Bank) (k : ℕ) (event : ClientEvent) (after : Bank) : Type 0 where
     pub before : Client
     pub is_there : slice_get bank.clients k ≡ Some before
     pub allowed : (client_step f k before event).fault ≡ None
     pub leads : let step = client_step f k before event in after ≡ with_client bank k step.client step.sent
 
-  -- a site falls in place of a step that it doesn't refuse, over a cell of this value
+  -- a site falls in place of a step that it does not refuse, over a cell of this value
   pub record SiteFalls (bank : Bank) (i : ℕ) (event : EventOf Cmd Answer PaymentOrder) (cell : Boot) (after : Bank)
       : Type 0 where
     pub before : Site Cmd
@@ -61,7 +61,7 @@ module _ (setup : Setup) (choose : Choice Cmd) (f : ℕ) where
   Acts bank (OfNode c event) after = NodeActs bank c event after
   Acts bank (OfClient k event) after = ClientActs bank k event after
 
-  -- sites alone fall
+  -- only sites fall
   abbrev pub FallsBy : Bank → Turn → Boot → Bank → Type 0
   FallsBy bank (OfSite i event) cell after = SiteFalls bank i event cell after
   FallsBy bank (OfNode c event) cell after = ⊥
@@ -92,7 +92,7 @@ module _ (setup : Setup) (choose : Choice Cmd) (f : ℕ) where
     pub all : length cells ≡ 2 * f + 1
     pub run : IsRun (opening_bank setup f cells) moves bank
 
-  -- a moment of a legal list: some first of its moves lead to this bank, and from there the others go on
+  -- a moment of a legal list: some of its first moves lead to this bank, and from there the others go on
   pub record Moment (cells : List Boot) (moves : List Move) (bank : Bank) : Type 0 where
     pub before : List Move
     pub after : List Move
@@ -101,7 +101,7 @@ module _ (setup : Setup) (choose : Choice Cmd) (f : ℕ) where
     pub legal : IsLegal cells before then
     pub rest : IsRun then after bank
 
--- WHAT THE HEADLINE IS SAID OF: any legal list, over a setup that breaks no rule, from cells of any value, where the
+-- WHAT THE HEADLINE SPEAKS OF: any legal list, over a setup that breaks no rule, from cells of any value, where the
 -- choices that the sites' steps take as given are right; and the bank that it leads to.
 pub record LegalList (setup : Setup) (f : ℕ) : Type 0 where
   pub valid : IsValid setup
@@ -112,13 +112,13 @@ pub record LegalList (setup : Setup) (f : ℕ) : Type 0 where
   pub bank : Bank
   pub legal : IsLegal setup choose f cells moves bank
 
--- any way in which a legal list goes on, and the bank that this leads to
+-- any continuation of a legal list, and the bank that it leads to
 pub record Continued {setup : Setup} {f : ℕ} (list : LegalList setup f) : Type 0 where
   pub moves : List Move
   pub bank : Bank
   pub run : IsRun setup list.choose f list.bank moves bank
 
--- a moment of the list, and one of the list as it goes on
+-- a moment of a legal list
 abbrev pub MomentOf : {setup : Setup} {f : ℕ} → LegalList setup f → Type 0
 MomentOf {setup} {f} list = Moment setup list.choose f list.cells list.moves list.bank
 

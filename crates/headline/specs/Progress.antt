@@ -1,5 +1,5 @@
 -- NO DEAD END: where f+1 sites run, the bank can go on, without a crash and without new business, until each client's
--- request and each node's notice is answered, and each order is done or returned at its node and told to the book.
+-- request and each node's notice is answered, and each order is done or returned at its node and reported to the book.
 use Rattle.std.specs.Prelude.{◌≡◌, ℕ, ◌+◌, ◌-◌, ◌*◌, ◌<◌, ◌≤◌, true, List, [], ◌∷◌, ◌++◌, length, slice_get, All, Contains, Some, None, sum_by, IsSome, ⊤}
 use Rattle.pvp_types.specs.declared.setup.Setup.{Setup}
 use Rattle.pvp_types.specs.declared.command.Cmd.{Cmd}
@@ -52,7 +52,7 @@ pub record CanGoOn (f : ℕ) (bank : Bank) : Type 0 where
       → 2 * (length x.log + length bank.clients) + unanswered_count bank ≤ MAX_ROWS
 
 -- Nothing is on the way between a node and a book: each pay-in is credited, each pay-out is an order of the book, and
--- the three amounts of which the way is made are 0; so the account is the figure.
+-- the three amounts that are on the way are 0; so the account is the figure.
 pub record NothingOnTheWay (setup : Setup) (c : ℕ) (n : Node) (entries : List Entry) : Type 0 where
   pub pay_ins : (k : ℕ) → k < length n.pay_ins → has_pay_in entries c (k + 1) ≡ true
   pub pay_outs : (order : PaymentOrder) → Contains n.pay_outs order → Contains (orders entries c) order
@@ -90,7 +90,7 @@ pub record SitesProgress {setup : Setup} {f : ℕ} (list : LegalList setup f) : 
   pub nodes : after.nodes ≡ list.bank.nodes
   pub clients : after.clients ≡ list.bank.clients
 
--- ITS SECOND PART: a REQUEST of the post is executed by all that work, and its REPLY is in the post
+-- ITS SECOND PART: a REQUEST in the post is executed by all that work, and its REPLY is in the post
 pub record Serves {setup : Setup} {f : ℕ} (list : LegalList setup f)
     (view : ℕ) (log : List Row) (row : Row) : Type 0 where
   pub moves : List Move
@@ -109,7 +109,7 @@ pub record Serves {setup : Setup} {f : ℕ} (list : LegalList setup f)
   pub nodes : after.nodes ≡ list.bank.nodes
   pub clients : after.clients ≡ list.bank.clients
 
--- what has become of a client: one that did not wait is as it was; the request of one that waited is answered
+-- what becomes of a client: if it did not wait, it is as it was; if it waited, its request is answered
 pub record IsServed (x y : Client) : Type 0 where
   pub still : x.waiting ≡ None → y ≡ x
   pub same : y.number ≡ x.number
@@ -128,7 +128,7 @@ AreServed before after =
     (k : ℕ) (x y : Client) → slice_get before k ≡ Some x → slice_get after k ≡ Some y
     → IsServed x y
 
--- and each of these nodes heard
+-- and each of these nodes is heard
 abbrev pub AreHeard : List Node → List Node → Type 0
 AreHeard before after =
     (c : ℕ) (x y : Node) → slice_get before c ≡ Some x → slice_get after c ≡ Some y → IsHeard x y

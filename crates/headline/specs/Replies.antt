@@ -1,4 +1,4 @@
--- What clients were told, and what logs keep.
+-- What clients were answered, and what logs keep.
 use Rattle.std.specs.Prelude.{◌≡◌, ℕ, ◌<◌, ◌≤◌, ◌⊎◌, take, slice_get, Contains, Some}
 use Rattle.pvp_types.specs.declared.setup.Setup.{Setup}
 use Rattle.pvp_types.specs.declared.command.Cmd.{Cmd}
@@ -21,7 +21,7 @@ use Rattle.headline.specs.Legal.{LegalList, Continued, MomentOf, MomentUpTo}
 abbrev pub LogsRise : Bank → Type 0
 LogsRise bank = (x : Site Cmd) → Contains bank.sites x → IsRising x.log
 
--- the site stands in the bank at one moment or at the other
+-- the site is in the bank at one moment or at the other
 abbrev pub IsSiteOf : Bank → Bank → Site Cmd → Type 0
 IsSiteOf early late x = Contains early.sites x ⊎ Contains late.sites x
 
@@ -30,8 +30,8 @@ pub record WasTold (bank : Bank) (e : Envelope) (said : ReplyOf Answer) : Type 0
   pub posted : Contains bank.post e
   pub is : e.msg ≡ Reply said
 
--- The site that an envelope is from has executed, in the REPLY's view, a row of the client that it is for, with its
--- number; and its answer is the book's at that row's place.
+-- The sender of an envelope has executed, in the REPLY's view, a row of the client that the envelope is for, with the
+-- REPLY's number; and its answer is the book's at that row's place.
 pub record HasAnswered (setup : Setup) (bank : Bank) (e : Envelope) (said : ReplyOf Answer) : Type 0 where
   pub sender : ℕ
   pub site : Site Cmd
@@ -52,7 +52,7 @@ AnsweredWereExecuted {setup} list =
     (e : Envelope) (said : ReplyOf Answer) → WasTold list.bank e said
     → (moment : MomentOf list) × HasAnswered setup moment.then e said
 
--- all REPLYs to one request of a client carry one answer
+-- all REPLYs to one request of a client carry the same answer
 abbrev pub AnswersAgree : Bank → Type 0
 AnswersAgree bank =
     (d e : Envelope) (a b : ReplyOf Answer) → WasTold bank d a → WasTold bank e b → d.to ≡ e.to → a.number ≡ b.number

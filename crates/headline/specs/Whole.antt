@@ -27,7 +27,7 @@ pub record Headline {setup : Setup} {f : ℕ} (early : LegalList setup f) (late 
   -- no node is ever short
   pub covered : OrdersAreCovered setup early.bank late.bank
   pub never_short : NeverShort setup f early.bank
-  -- what clients are told is one, right and lasting
+  -- the answers to clients agree, are right and last
   pub rise : LogsRise early.bank
   pub executed : AnsweredWereExecuted early
   pub one_answer : AnswersAgree early.bank

@@ -1,27 +1,27 @@
-//! What came of a step, and what it is to the actor whose turn it is.
+//! Moves, the events of clients, and whose turn a step is.
 
 use pvp_book::Book;
 use pvp_types::{Cmd, Step};
 use rtgs_node::NodeEvent;
 use vr_types::{Boot, Envelope, Event};
 
-/// A step that was taken, or a site's fall in place of the step that was tried.
+/// A step that was taken, or the fall of a site in place of a step that was tried.
 #[derive(Clone, Copy, Debug, PartialEq, Eq)]
 pub enum Move {
     /// The step was taken.
     Takes(Step),
-    /// The site is down, over a cell that holds this.
+    /// The site is down, over a cell that holds this value.
     Falls(Step, Boot),
 }
 
 /// What may happen to a client.
 #[derive(Drop)]
 pub enum ClientEvent {
-    /// It asks for this.
+    /// It makes this request.
     Submits(Cmd),
-    /// An envelope comes.
+    /// An envelope arrives.
     Takes(Envelope<Book>),
-    /// It is time to say again what may have been lost.
+    /// It is time to send again what may have been lost.
     Beats,
 }
 
@@ -32,17 +32,17 @@ pub enum ClientFault {
     Outstanding,
     /// C1: there is no greater request number.
     Spent,
-    /// A growth was refused.
+    /// Memory was refused.
     NoMemory,
 }
 
-/// Whose turn a step is, and what happens to that actor: a site or a client by its number, a node by its currency's.
+/// Which actor a step is for, and what happens to it: a site or a client by its number, a node by its currency.
 #[derive(Drop)]
 pub enum Turn {
-    /// This site's, by its own number.
+    /// A site, by its number among the sites.
     OfSite(u16, Event<Book>),
-    /// The node's of this currency.
+    /// The node of this currency.
     OfNode(u16, NodeEvent),
-    /// This client's.
+    /// A client, by its number.
     OfClient(u16, ClientEvent),
 }

@@ -10,7 +10,7 @@ use Rattle.pvp_wire.specs.Spelling.{spelling}
 use Rattle.pvp_wire.specs.Fits.{IsSpelled}
 use Rattle.pvp_wire.specs.Reading.{frame_at, TakesMemory}
 
--- the bytes that came after the last whole frame, and the fault that stands in front of them
+-- the bytes that came after the last complete frame, and the fault at their front
 pub record Fed : Type 0 where
   pub held : List ℕ
   pub fault : Option WireFault
@@ -19,23 +19,23 @@ pub record Fed : Type 0 where
 abbrev pub empty : Fed
 empty = record { held = []; fault = None }
 
--- No fault stands there, and what is held is no whole frame. Or one does: it is what is wrong with the bytes that are
--- held, whatever comes after them.
+-- No fault is there, and what is held begins with no complete frame. Or one is: it is what is wrong with the bytes
+-- that are held, whatever comes after them.
 abbrev pub IsAt : List ℕ → Option WireFault → Type 0
 IsAt held None = frame_at held ≡ Err Short
 IsAt held (Some fault) = (frame_at held ≡ Err fault) × (fault ≢ Short) × (fault ≢ NoMemory)
 
--- every feeder is so between its calls
+-- this holds of every feeder between its calls
 abbrev pub IsFed : Fed → Type 0
 IsFed fed = IsAt fed.held fed.fault
 
--- the stream is these frames, and then what is left
+-- the stream is these frames, followed by the rest
 pub record Splits (stream : List ℕ) (frames : List Stamped) (rest : List ℕ) : Type 0 where
   pub whole : stream ≡ flat_map spelling frames ++ rest
   pub each : All IsSpelled frames
 
--- What stands in front is kept behind these frames: as one more, of which the size is answered, or there is none.
--- Memory may be refused for its rows, or where there is no room for one more.
+-- The frame at the front is kept behind these frames, and its size is answered; or there is none. Memory may be
+-- refused for its rows, or where there is no room for one more frame.
 abbrev pub Keeps : Vec Stamped → List ℕ → Result ℕ WireFault → Vec Stamped → Type 0
 Keeps old bytes (Ok size) new = (s : Stamped) × (frame_at bytes ≡ Ok (s, size)) × (new.items ≡ old.items ++ s ∷ [])
 Keeps old bytes (Err fault) new = (new.items ≡ old.items) × ((frame_at bytes ≡ Err fault)
@@ -47,7 +47,7 @@ pub record IsCutShort (bytes : List ℕ) (frames : Vec Stamped) : Type 0 where
   pub splits : Splits bytes frames.items rest
   pub needs : TakesMemory rest ⊎ IsOk (frame_at rest)
 
--- a fault in front
+-- a fault at the front is returned
 pub record IsTold (old : Fed) (piece : List ℕ) (told : WireFault) (new : Fed) : Type 0 where
   pub held : new.held ≡ old.held ++ piece
   pub fault : new.fault ≡ Some told
@@ -60,14 +60,14 @@ pub record IsRefused (old : Fed) (piece : List ℕ) (told : WireFault) (new : Fe
   pub memory : told ≡ NoMemory
   pub same : new ≡ old
 
--- What a feeder without a fault makes of a piece: the frames that are whole now are answered, and the rest is held. A
--- fault behind them is told at the next call, one in front of all of them at once.
+-- What a feeder without a fault makes of a piece: the frames that are now complete are answered, and the rest is held.
+-- A fault behind frames is returned at the next call; one in front of all of them at once.
 abbrev pub Takes : Fed → List ℕ → Result (Vec Stamped) WireFault → Fed → Type 0
 Takes old piece (Ok frames) new =
     Splits (old.held ++ piece) frames.items new.held × ((frames.items ≢ []) ⊎ (new.fault ≡ None))
 Takes old piece (Err fault) new = IsTold old piece fault new ⊎ IsRefused old piece fault new
 
--- What a feeder makes of a piece: where a fault stands, it is told again, and the piece is not taken.
+-- What a feeder makes of a piece: a fault from before is returned again, and the piece is not taken.
 abbrev pub FeedsAt : Option WireFault → Fed → List ℕ → Result (Vec Stamped) WireFault → Fed → Type 0
 FeedsAt None old piece result new = Takes old piece result new
 FeedsAt (Some fault) old piece result new = (result ≡ Err fault) × (new ≡ old)
@@ -83,7 +83,7 @@ pub record Call : Type 0 where
   pub answer : Result (Vec Stamped) WireFault
   pub after : Fed
 
--- Calls one after the other of a feeder that holds this at first. After each the feeder is such as every feeder is.
+-- Calls, one after the other, of a feeder that holds this at first. After each the feeder is as every feeder is.
 abbrev pub AreFed : Fed → List Call → Type 0
 AreFed fed [] = Unit {0}
 AreFed fed (call ∷ calls) = Feeds fed call.piece call.answer call.after × IsFed call.after × AreFed call.after calls
@@ -112,7 +112,7 @@ taken_by (Err Kind) piece = piece
 taken_by (Err Field) piece = piece
 taken_by (Err Length) piece = piece
 
--- the same of a feeder with this fault, which takes none
+-- the same for a feeder with this fault, which takes no piece
 abbrev pub taken_at : Option WireFault → Result (Vec Stamped) WireFault → List ℕ → List ℕ
 taken_at None answer piece = taken_by answer piece
 taken_at (Some fault) answer piece = []

@@ -12,7 +12,8 @@ StampedFits s = stamp.Fits s.stamp × Fits 2 s.envelope.to × MessageFits s.enve
 abbrev pub IsBytes : List ℕ → Type 0
 IsBytes bytes = All (λ b. b < 256) bytes
 
--- what has a spelling: it fits, and its actors, the clients of its rows and the boots that it tells of are such
+-- what has a spelling: it fits, its actors are actors, its rows are of clients, and its boot numbers are those of 1 to
+-- 7 sites
 pub record IsSpelled (s : Stamped) : Type 0 where
   pub fits : StampedFits s
   pub wireable : is_wireable s ≡ true

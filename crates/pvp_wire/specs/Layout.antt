@@ -1,4 +1,4 @@
--- What stands in a frame: the shape of each thing of the bank, said once.
+-- What a frame has in it: the shape of each kind of value, defined once.
 use Rattle.std.specs.Prelude.{ℕ, ◌==◌, ◌&&◌, nat_le, Bool, false, List, [], ◌∷◌, Option, Some, None, Ok, Err, if◌then◌else◌}
 use Rattle.pvp_types.specs.declared.command.Cmd.{Cmd}
 use Rattle.pvp_types.specs.declared.command.Cmd.TheVariants.{Instruct, Rescind, Fund, Settle, PayOut, Paid, Returned}
@@ -65,7 +65,7 @@ amount = pair (wide 1) (wide 8)
 abbrev pub order_number : Shape (ℕ × ℕ)
 order_number = pair (wide 1) (wide 4)
 
--- of each command its tag, the shape of its fields, and these
+-- for each command its tag, the shape of its fields, and the fields
 abbrev pub per_command {ℓ} : {R : Type ℓ} → ByShape R → Cmd → R
 per_command put (Instruct asked) = put _ 1 instruct asked
 per_command put (Rescind reference) = put _ 2 (wide 4) reference
@@ -129,7 +129,7 @@ reason_at (n ∷ bytes) =
 abbrev pub reason : Shape Reason
 reason = record { spell = λ why. reason_number why ∷ []; Fits = λ why. Unit {0}; read = λ refused. reason_at }
 
--- of each answer its tag, and its field where it has one
+-- for each answer its tag, and its field where it has one
 abbrev pub per_reply {ℓ} : {R : Type ℓ} → ByShape R → replies.Reply → R
 per_reply put Done = put _ 1 nothing tt
 per_reply put Matched = put _ 2 nothing tt
@@ -161,7 +161,7 @@ order =
 
 -- ---- rows, boots and states
 
--- a row: whose it is, its number, its command
+-- a row: its client, its number, its command
 unfoldable pub row : Shape BankRow
 row =
     whole (wide_of 2 is_client of (λ r. r.client) and wide 4 of (λ r. r.number) and lastly command (λ r. r.cmd))
@@ -175,7 +175,7 @@ rows = list_of (wide 2) row
 abbrev pub is_site_count : ℕ → Bool
 is_site_count count = nat_le 1 count && nat_le count MOST_SITES
 
--- what a sender knew of boots: how many sites it tells of, then the boot number of each
+-- the boot numbers that a sender knew: the number of sites, then the boot number of each
 unfoldable pub boots : Shape (List ℕ)
 boots = list_of (wide_of 1 is_site_count) (wide 4)
 
@@ -190,7 +190,7 @@ abbrev pub per_option {ℓ} : {R : Type ℓ} → ByShape R → Option (StateOf C
 per_option put None = put _ 0 nothing tt
 per_option put (Some s) = put _ 1 state s
 
--- the state where the flag is 1
+-- the state if the flag is 1
 unfoldable pub option_at : Bool → List ℕ → Reads (Option (StateOf Cmd))
 option_at refused [] = Err Length
 option_at refused (flag ∷ bytes) =
@@ -258,7 +258,7 @@ answer =
     whole (wide 4 of (λ m. m.view) and wide 4 of (λ m. m.number) and lastly reply (λ m. m.reply))
     (λ view number reply. record { view = view; number = number; reply = reply })
 
--- of each message its kind, the shape of its fields, and these
+-- for each message its kind, the shape of its fields, and the fields
 abbrev pub per_message {ℓ} : {R : Type ℓ} → ByShape R → BankMsg → R
 per_message put (Request msg) = put _ 1 request msg
 per_message put (Prepare msg) = put _ 2 prepare msg
@@ -285,7 +285,7 @@ body = per_message spelled_by
 abbrev pub MessageFits : BankMsg → Type 0
 MessageFits = per_message fits_by
 
--- the fields of a message of this kind; no message has another than 1 to 13
+-- the fields of a message of this kind; there are only the kinds 1 to 13
 unfoldable pub message_at : Bool → ℕ → List ℕ → Reads BankMsg
 message_at refused kind bytes =
     if kind == 1 then as_part Request (request.read false bytes)
@@ -306,7 +306,7 @@ message_at refused kind bytes =
 
 -- ---- stamps
 
--- the actor that sends, its clock, and which envelope of that moment this is
+-- the actor that sends, its clock, and the envelope's place among those sent at that moment
 unfoldable pub stamp : Shape Stamp
 stamp =
     whole (wide_of 2 is_actor of (λ s. s.actor) and wide 8 of (λ s. s.clock) and lastly (wide 4) (λ s. s.index))

@@ -1,5 +1,4 @@
--- The two parts in which the fields of a message are written: what stands in front of its rows, and the rows page by
--- page.
+-- The two parts in which the fields of a message are written: all in front of its rows, and the rows page by page.
 use Rattle.std.specs.Prelude.{ℕ, ◌*◌, List, [], take, drop, Option, Some, None}
 use Rattle.std.specs.List.{flat_map}
 use Rattle.vr_types.specs.declared.message.MsgOf.TheVariants.{DoViewChange, StartView, NewState, RecoveryResponse}
@@ -13,7 +12,7 @@ abbrev pub rows_of : Option (StateOf Cmd) → Option (List BankRow)
 rows_of None = None
 rows_of (Some state) = Some state.rows
 
--- the rows with which a message ends
+-- the rows at the end of a message
 abbrev pub last_rows : BankMsg → Option (List BankRow)
 last_rows (DoViewChange msg) = Some msg.rows
 last_rows (StartView msg) = Some msg.rows

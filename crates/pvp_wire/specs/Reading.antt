@@ -11,7 +11,7 @@ use Rattle.pvp_wire.specs.Layout.{BankMsg, stamp, message_at}
 use Rattle.pvp_wire.specs.Spelling.{version}
 pub use Rattle.pvp_wire.specs.Shape.{◌>>=◌, Reads, number_at}
 
--- what stands after the version and the kind
+-- what follows the version and the kind
 unfoldable pub envelope_at : Bool → ℕ → List ℕ → Reads Stamped
 envelope_at refused kind bytes = do
   stamp ← stamp.read false bytes
@@ -19,7 +19,7 @@ envelope_at refused kind bytes = do
   msg ← message_at refused kind to.1
   Ok (record { stamp = stamp.0; envelope = record { from = stamp.0.actor; to = to.0; msg = msg.0 } }, msg.1)
 
--- nothing may be left of a frame
+-- no bytes of a frame may be left over
 abbrev pub all_read : {A : Type 0} → A × List ℕ → Result A WireFault
 all_read x = if length x.1 == 0 then Ok x.0 else Err Length
 
@@ -36,7 +36,8 @@ counted_at refused (number ∷ kind ∷ bytes) =
 abbrev pub most_length : ℕ
 most_length = 4194304
 
--- the frame at the front of bytes, and how many bytes it takes; else what is wrong, the first of these tests that fails
+-- the frame at the front of bytes, and how many bytes it takes; else what is wrong: the first of these tests that
+-- fails
 unfoldable pub frame_where : Bool → List ℕ → Result (Stamped × ℕ) WireFault
 frame_where refused bytes =
     let len = big_number 4 bytes in
@@ -50,7 +51,7 @@ frame_where refused bytes =
 abbrev pub frame_at : List ℕ → Result (Stamped × ℕ) WireFault
 frame_at bytes = frame_where false bytes
 
--- Reading this frame takes memory: all tests up to its rows are passed, and the first row is read.
+-- Reading this frame takes memory: all tests before its rows are passed, and the first row is read.
 abbrev pub TakesMemory : List ℕ → Type 0
 TakesMemory bytes = frame_where true bytes ≡ Err NoMemory
 
@@ -73,8 +74,8 @@ abbrev pub Finds : {X Y E : Type 0} → (X → Y) → Result X E → Result Y E 
 Finds view (Ok x) read = read ≡ Ok (view x)
 Finds view (Err fault) read = read ≡ Err fault
 
--- What a function that takes memory for rows returned is what reading gives where memory is not refused. Only where
--- reading meets a row that it has to keep may it tell that memory was refused.
+-- What a function that takes memory for rows returned is what reading gives where memory is not refused. It may return
+-- that memory was refused only where reading comes to a row that it has to keep.
 abbrev pub Gives : {X Y : Type 0} → (X → Y) → Result X WireFault → (Bool → Result Y WireFault) → Type 0
 Gives view (Ok x) read = read false ≡ Ok (view x)
 Gives view (Err fault) read = (read false ≡ Err fault) ⊎ ((fault ≡ NoMemory) × (read true ≡ Err NoMemory))

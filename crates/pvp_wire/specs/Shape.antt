@@ -1,4 +1,5 @@
--- Shapes: how a value is spelled in bytes, what fits the bytes that it has, and how it is read again, said together.
+-- Shapes: how a value is spelled in bytes, what fits the bytes that it has, and how it is read again, defined
+-- together.
 use Rattle.std.specs.Prelude.{ℕ, zero, suc, ◌^◌, ◌<◌, Bool, false, nat_lt, List, [], ◌∷◌, ◌++◌, length, drop, Result, Ok, Err, if◌then◌else◌}
 use Rattle.std.specs.List.{flat_map}
 use Rattle.byteorder.specs.Endian.{big_bytes, big_number}
@@ -19,7 +20,7 @@ Reads A = Result (A × List ℕ) WireFault
 abbrev pub as_part : {A B : Type 0} → (A → B) → Reads A → Reads B
 as_part make read = read >>= λ x. Ok (make x.0, x.1)
 
--- A shape. Reading takes memory for some values: it is told whether memory is refused.
+-- A shape. Reading takes memory for some values: the first argument says whether memory is refused.
 pub record Shape (A : Type 0) : Type 1 where
   pub spell : A → List ℕ
   pub Fits : A → Type 0
@@ -27,19 +28,19 @@ pub record Shape (A : Type 0) : Type 1 where
 
 -- ---- numbers
 
--- a number in so many bytes, the highest first
+-- a number in a given count of bytes, the highest byte first
 unfoldable pub number : ℕ → ℕ → List ℕ
 number n x = big_bytes n x
 
--- a number fits so many bytes
+-- a number fits a given count of bytes
 abbrev pub Fits : ℕ → ℕ → Type 0
 Fits n x = x < 256 ^ n
 
--- a number of so many bytes, which the frame's end may cut off
+-- a number of a given count of bytes, which the frame's end may cut off
 abbrev pub number_at : ℕ → List ℕ → Reads ℕ
 number_at n bytes = if nat_lt (length bytes) n then Err Length else Ok (big_number n bytes, drop n bytes)
 
--- a number of so many bytes that has to be one of a list
+-- a number of a given count of bytes that must pass a test
 abbrev pub listed_at : ℕ → (ℕ → Bool) → List ℕ → Reads ℕ
 listed_at width is_listed bytes = number_at width bytes >>= λ n. if is_listed n.0 then Ok n else Err Field
 
@@ -56,7 +57,7 @@ nothing = record { spell = λ x. []; Fits = λ x. Unit {0}; read = λ refused by
 
 -- ---- parts, one after the other
 
--- The parts of a Z from one of them on. They are read for what makes a Z of them.
+-- The parts of a Z from one of them on. When they are read, the last step makes a Z of them.
 pub record Chain (Z Make : Type 0) : Type 1 where
   pub spell : Z → List ℕ
   pub Fits : Z → Type 0
@@ -87,7 +88,7 @@ whole parts make = record { spell = parts.spell; Fits = parts.Fits; read = parts
 abbrev pub pair : {A B : Type 0} → Shape A → Shape B → Shape (A × B)
 pair a b = whole (a of (λ p. p.0) and lastly b (λ p. p.1)) (λ x y. (x, y))
 
--- ---- lists. Of some each item that was read is kept, which alone takes memory.
+-- ---- lists. In some, each item that was read is kept, and only that takes memory.
 
 -- each item of a list fits
 abbrev pub EachFits : {A : Type 0} → (A → Type 0) → List A → Type 0
@@ -98,7 +99,7 @@ EachFits ItemFits (x ∷ xs) = ItemFits x × EachFits ItemFits xs
 abbrev pub kept : {A : Type 0} → Bool → A → Result A WireFault
 kept refused x = if refused then Err NoMemory else Ok x
 
--- so many items, each read so
+-- a given count of items, each read in this way
 unfoldable pub items_from : {A : Type 0} → (List ℕ → Reads A) → Bool → ℕ → List ℕ → Reads (List A)
 items_from read refused zero bytes = Ok ([], bytes)
 items_from read refused (suc count) bytes = do
@@ -115,13 +116,13 @@ list_of count item = record {
   read = λ refused bytes. count.read refused bytes >>= λ n. items_from (item.read false) refused n.0 n.1;
 }
 
--- the same, of items that lie in the value itself: reading them takes no memory
+-- the same for items that lie in the value itself: reading them takes no memory
 abbrev pub in_place : {A : Type 0} → Shape A → Shape A
 in_place shape = record { spell = shape.spell; Fits = shape.Fits; read = λ refused. shape.read false }
 
--- ---- choices: each value of a type has a number, a shape, and in it what that shape has
+-- ---- choices: each value of a type has a number and a shape, and the value of that shape
 
--- what is told of a value by these three
+-- a value, described by these three
 abbrev pub ByShape {ℓ} : Type ℓ → Type (1 ⊔ ℓ)
 ByShape R = (A : Type 0) → ℕ → Shape A → A → R
 

@@ -12,12 +12,12 @@ unfoldable pub use Rattle.pvp_wire.specs.Shape.{number}
 abbrev pub version : ℕ
 version = 2
 
--- what stands between a frame's length and its message: the version, the kind, the stamp, to whom it goes
+-- what is between a frame's length and its message: the version, the kind, the stamp, the receiver
 abbrev pub head : Stamped → List ℕ
 head s = version ∷ kind s.envelope.msg ∷ stamp.spell s.stamp ++ number 2 s.envelope.to
 
--- the most bytes that a command, a row, rows, boots and the fields of a message have: an Instruct, and a
--- RECOVERYRESPONSE with as many rows as a log has
+-- the greatest numbers of bytes of a command, a row, rows, boot numbers and the fields of a message: an Instruct, and
+-- a RECOVERYRESPONSE with as many rows as a log can have
 abbrev pub most_command : ℕ
 most_command = 25
 
@@ -40,13 +40,13 @@ spelling s = number 4 (18 + length (body s.envelope.msg)) ++ head s ++ body s.en
 abbrev pub has_client : BankRow → Bool
 has_client r = is_client r.client
 
--- what a message tells of boots, where it tells of them, it tells of so many sites
+-- if a message carries boot numbers, they are those of 1 to 7 sites
 abbrev pub has_site_count : Option (List ℕ) → Bool
 has_site_count None = true
 has_site_count (Some known) = is_site_count (length known)
 
 -- An envelope that has a spelling: it is from the actor of its stamp, its actors are actors, its rows are of clients,
--- and the boots that it tells of are those of 1 to 7 sites.
+-- and its boot numbers, if it has any, are those of 1 to 7 sites.
 abbrev pub is_wireable : Stamped → Bool
 is_wireable s =
     (s.envelope.from == s.stamp.actor)

@@ -1,4 +1,4 @@
-//! Which envelopes have a spelling.
+//! Which envelopes can be written as frames.
 ghost use Rattle.std.specs.Prelude.{◌≡◌};
 ghost use Rattle.std.specs.List.{list_all};
 ghost use Rattle.vr_types.specs.Messages.{rows_in, rows_of_state, known_in};
@@ -9,8 +9,8 @@ use pvp_types::Cmd;
 use vr_types::{MOST_SITES, MsgOf, RowsOf, StateOf, is_actor, is_client};
 
 /// Whether a stamped envelope has a spelling: it is from the actor of its stamp, its actors are 0 to 64, 101 to 108 or
-/// 200 to 206, the clients of its rows 0 to 64 or 101 to 108, and the boots that it tells of are those of 1 to 7 sites. It
-/// takes no memory.
+/// 200 to 206, the clients of its rows are 0 to 64 or 101 to 108, and its boot numbers, if it has any, are those of 1
+/// to 7 sites. It takes no memory.
 pub fn wireable(stamped: &Stamped) -> bool
     ensures { result ≡ is_wireable stamped.now }
 {
@@ -42,7 +42,7 @@ fn has_clients(msg: &Message) -> bool
     }
 }
 
-/// Whether what a message tells of boots, where it tells of them, is of 1 to 7 sites.
+/// Whether the boot numbers in a message, where it carries them, are those of 1 to 7 sites.
 fn has_site_count(msg: &Message) -> bool
     ensures { result ≡ has_site_count (known_in msg.now) }
 {
@@ -54,7 +54,7 @@ fn has_site_count(msg: &Message) -> bool
     }
 }
 
-/// Whether a group may have so many sites.
+/// Whether a group may have this number of sites.
 pub fn is_site_count(count: usize) -> bool
     ensures { result ≡ is_site_count count }
 {

@@ -1,4 +1,4 @@
-//! What a sender knew of the sites' boots.
+//! The boot numbers that a sender knew of the sites.
 ghost use Rattle.std.specs.Prelude.{◌≤◌, false};
 ghost use Rattle.vr_types.specs.declared.limits.TheConstants.{MOST_SITES};
 ghost use Rattle.pvp_wire.specs.Shape.{number_at, items_from};
@@ -9,7 +9,7 @@ use crate::fault::WireFault;
 use crate::fields::{site_count_at, u32_at};
 use vr_types::Known;
 
-/// The boot numbers of so many sites.
+/// The boot numbers of `count` sites.
 fn boots_from(count: u8, bytes: &[u8]) -> Result<(Known, &[u8]), WireFault>
     requires { count ≤ MOST_SITES }
     ensures { Finds (λ x. (x.0, x.1.now)) result (items_from (number_at 4) false count bytes.now) }
@@ -24,7 +24,7 @@ fn boots_from(count: u8, bytes: &[u8]) -> Result<(Known, &[u8]), WireFault>
     Ok((known, rest))
 }
 
-/// Of how many sites the boots are told, and the boot number of each. It takes no memory.
+/// The number of sites, then the boot number of each. It takes no memory.
 #[tactic(auto, unfolding(crate::specs::Layout::boots))]
 pub fn boots_at(bytes: &[u8]) -> Result<(Known, &[u8]), WireFault>
     ensures { Finds (λ x. (x.0, x.1.now)) result (layout.boots.read false bytes.now) }

@@ -1,9 +1,9 @@
-//! Why bytes are no frame.
+//! The faults for which bytes are not a frame.
 
 use std::alloc::AllocError;
 use std::fmt;
 
-/// Why bytes are no frame.
+/// Why bytes are not a frame.
 #[derive(Clone, Copy, Debug, PartialEq, Eq)]
 pub enum WireFault {
     /// F1: the bytes end within a frame.
@@ -12,13 +12,13 @@ pub enum WireFault {
     TooLong,
     /// F3: the version is not 2.
     Version,
-    /// F4: no message has this kind.
+    /// F4: there is no message of this kind.
     Kind,
     /// F5: a field has a value that it may not have.
     Field,
     /// F6: the fields end before the frame does, or after it.
     Length,
-    /// F7: memory was refused, by `decode` for a row.
+    /// F7: memory was refused; in `decode`, for a row.
     NoMemory,
 }
 
@@ -42,7 +42,7 @@ impl fmt::Display for WireFault {
     }
 }
 
-/// A refusal of memory is F7.
+/// A refusal of memory becomes F7.
 impl From<AllocError> for WireFault {
     ghost use Rattle.std.specs.Prelude.{◌≡◌};
     ghost use Rattle.pvp_wire.specs.declared.fault.WireFault.TheVariants.{NoMemory};

@@ -1,4 +1,4 @@
-//! A stream of frames that comes in pieces.
+//! A reader for a stream of frames that comes in pieces.
 ghost use Rattle.std.specs.Prelude.{◌≡◌, ◌≤◌, [], IfOk, OnErr, drop, length};
 ghost use Rattle.pvp_wire.specs.Feeding.{Feeds, Splits, IsAt, Keeps, IsCutShort, empty};
 
@@ -8,14 +8,14 @@ use crate::stamped::Stamped;
 use std::alloc::{AllocError, Global};
 use std::marker::Model;
 
-/// Takes a stream piece by piece, and answers its frames as they become whole. However the stream is cut, the frames
-/// are the same.
+/// Takes a stream piece by piece, and answers its frames as they become complete. However the stream is cut, the
+/// frames are the same.
 #[derive(Drop)]
 pub struct Feeder {
     alloc: Global,
     /// What came after the last whole frame.
     held: Vec<u8>,
-    /// What is wrong with it, where no more of the stream can mend it.
+    /// What is wrong with it, where nothing that follows can make it a frame.
     fault: Option<WireFault>,
 }
 
@@ -42,20 +42,20 @@ impl Feeder {
         }
     }
 
-    /// How many bytes are held: those that came after the last whole frame. It takes no memory.
+    /// How many bytes are held: those that came after the last complete frame. It takes no memory.
     pub fn held(&self) -> usize
         ensures { result ≡ length self.now.held }
     {
         self.held.len()
     }
 
-    /// Takes the next piece of the stream, and answers the frames that are whole now, in order.
+    /// Takes the next piece of the stream, and answers the frames that are now complete, in order.
     ///
-    /// A piece with good frames before a fault answers these, and the fault comes at the next call; without one it comes
-    /// at once. After F2 to F6 every call answers the same fault, and no piece is taken. F7 comes where memory for the
-    /// piece, for its frames or for their rows was refused and no fault stands, so never for an empty piece; then the
-    /// feeder is unchanged, and the piece is not taken. F1 never comes: a frame that is not whole waits for more. What is
-    /// held is neither moved nor looked at again until its frame is whole.
+    /// If a fault follows good frames, the call answers these, and the next call the fault; without good frames the
+    /// fault is returned at once. After F2 to F6 every call returns the same fault, and no piece is taken. F7 comes
+    /// where memory for the piece, for its frames or for their rows was refused, and there is no fault from before, so
+    /// never for an empty piece; then the feeder is unchanged, and the piece is not taken. F1 never comes: a frame
+    /// that is not complete waits for more. What is held is neither moved nor read again until its frame is complete.
     pub fn feed(&mut self, piece: &[u8]) -> Result<Vec<Stamped>, WireFault>
         ensures { Feeds self.old piece.now result self.new }
     {
@@ -82,15 +82,15 @@ impl Feeder {
     }
 }
 
-/// How many bytes the frames in front of a stream take, and what is wrong behind them, where no more of the stream can
-/// mend it.
+/// How many bytes the frames at the front of a stream take, and what is wrong behind them, where nothing that follows
+/// can make it a frame.
 #[derive(Clone, Copy)]
 struct Front {
     used: usize,
     fault: Option<WireFault>,
 }
 
-/// Keeps all frames in front of a stream. `Err` where memory is refused for the next, or for its rows.
+/// Keeps all frames at the front of a stream. `Err` where memory is refused for the next frame, or for its rows.
 fn take_frames(alloc: Global, bytes: &[u8], frames: &mut Vec<Stamped>) -> Result<Front, AllocError>
     requires { frames.old.items ≡ [] }
     ensures used { IfOk result (λ front. front.used ≤ length bytes.now) }
@@ -114,7 +114,7 @@ fn take_frames(alloc: Global, bytes: &[u8], frames: &mut Vec<Stamped>) -> Result
     }
 }
 
-/// Keeps the frame in front, and answers its size.
+/// Keeps the frame at the front, and answers its size.
 fn keep_frame(alloc: Global, bytes: &[u8], frames: &mut Vec<Stamped>) -> Result<usize, WireFault>
     ensures { Keeps frames.old bytes.now result frames.new }
 {
@@ -125,7 +125,7 @@ fn keep_frame(alloc: Global, bytes: &[u8], frames: &mut Vec<Stamped>) -> Result<
     }
 }
 
-/// Drops so many bytes from the front, and moves each of the others once. It takes no memory.
+/// Drops `used` bytes from the front, and moves each of the others once. It takes no memory.
 pub fn drop_front(held: &mut Vec<u8>, used: usize)
     requires { used ≤ length held.old.items }
     ensures { held.new.items ≡ drop used held.old.items }

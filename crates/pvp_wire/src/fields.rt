@@ -25,7 +25,7 @@ pub fn u8_at(bytes: &[u8]) -> Result<(u8, &[u8]), WireFault>
     }
 }
 
-/// A number of two bytes, high byte first; `Length` where they are not there. It takes no memory.
+/// A number of two bytes, high byte first; `Length` where there are fewer bytes. It takes no memory.
 pub fn u16_at(bytes: &[u8]) -> Result<(u16, &[u8]), WireFault>
     ensures { Finds (λ x. (x.0, x.1.now)) result (number_at 2 bytes.now) }
 {
@@ -35,7 +35,7 @@ pub fn u16_at(bytes: &[u8]) -> Result<(u16, &[u8]), WireFault>
     Ok((BigEndian::read_u16(bytes), &bytes[2..]))
 }
 
-/// A number of four bytes, high byte first; `Length` where they are not there. It takes no memory.
+/// A number of four bytes, high byte first; `Length` where there are fewer bytes. It takes no memory.
 pub fn u32_at(bytes: &[u8]) -> Result<(u32, &[u8]), WireFault>
     ensures { Finds (λ x. (x.0, x.1.now)) result (number_at 4 bytes.now) }
 {
@@ -45,7 +45,7 @@ pub fn u32_at(bytes: &[u8]) -> Result<(u32, &[u8]), WireFault>
     Ok((BigEndian::read_u32(bytes), &bytes[4..]))
 }
 
-/// A number of eight bytes, high byte first; `Length` where they are not there. It takes no memory.
+/// A number of eight bytes, high byte first; `Length` where there are fewer bytes. It takes no memory.
 pub fn u64_at(bytes: &[u8]) -> Result<(u64, &[u8]), WireFault>
     ensures { Finds (λ x. (x.0, x.1.now)) result (number_at 8 bytes.now) }
 {
@@ -77,7 +77,7 @@ pub fn actor_at(bytes: &[u8]) -> Result<(u16, &[u8]), WireFault>
     Ok((actor, rest))
 }
 
-/// How many sites are told of: 1 to 7.
+/// The number of sites in a list of boot numbers: 1 to 7.
 pub fn site_count_at(bytes: &[u8]) -> Result<(u8, &[u8]), WireFault>
     ensures finds { Finds (λ x. (x.0, x.1.now)) result (listed_at 1 is_site_count bytes.now) }
     ensures few { IfOk result (λ x. x.0 ≤ MOST_SITES) }
@@ -89,6 +89,7 @@ pub fn site_count_at(bytes: &[u8]) -> Result<(u8, &[u8]), WireFault>
     Ok((count, rest))
 }
 
+/// The fields of an instruction.
 fn instruct_at(bytes: &[u8]) -> Result<(Cmd, &[u8]), WireFault>
     ensures { Finds (λ x. (x.0, x.1.now)) result
         (as_part Instruct (layout.instruct.read false bytes.now)) }
@@ -110,6 +111,7 @@ fn instruct_at(bytes: &[u8]) -> Result<(Cmd, &[u8]), WireFault>
     Ok((cmd, rest))
 }
 
+/// The fields of a node's report of a pay-in.
 fn fund_at(bytes: &[u8]) -> Result<(Cmd, &[u8]), WireFault>
     ensures { Finds (λ x. (x.0, x.1.now)) result
         (as_part (λ f. Fund f.0 f.1 f.2 f.3) (layout.fund.read false bytes.now)) }
@@ -127,6 +129,7 @@ fn fund_at(bytes: &[u8]) -> Result<(Cmd, &[u8]), WireFault>
     Ok((cmd, rest))
 }
 
+/// The fields of a request for a pay-out.
 fn pay_out_at(bytes: &[u8]) -> Result<(Cmd, &[u8]), WireFault>
     ensures { Finds (λ x. (x.0, x.1.now)) result
         (as_part (λ a. PayOut a.0 a.1) (layout.amount.read false bytes.now)) }
@@ -136,6 +139,7 @@ fn pay_out_at(bytes: &[u8]) -> Result<(Cmd, &[u8]), WireFault>
     Ok((Cmd::PayOut { ccy, amt }, rest))
 }
 
+/// The fields of a node's report that it paid an order.
 fn paid_at(bytes: &[u8]) -> Result<(Cmd, &[u8]), WireFault>
     ensures { Finds (λ x. (x.0, x.1.now)) result
         (as_part (λ o. Paid o.0 o.1) (layout.order_number.read false bytes.now)) }
@@ -145,6 +149,7 @@ fn paid_at(bytes: &[u8]) -> Result<(Cmd, &[u8]), WireFault>
     Ok((Cmd::Paid { ccy, out }, rest))
 }
 
+/// The fields of a node's report that it returned an order.
 fn returned_at(bytes: &[u8]) -> Result<(Cmd, &[u8]), WireFault>
     ensures { Finds (λ x. (x.0, x.1.now)) result
         (as_part (λ o. Returned o.0 o.1) (layout.order_number.read false bytes.now)) }

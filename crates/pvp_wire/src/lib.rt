@@ -1,4 +1,4 @@
-//! What actors say to each other over a stream of bytes: stamped envelopes, each in a frame of its own.
+//! What actors send each other over a stream of bytes: stamped envelopes, each in a frame of its own.
 #![tactic(auto)]
 
 mod admitted;

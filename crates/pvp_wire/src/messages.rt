@@ -1,4 +1,4 @@
-//! The fields of messages, one function a kind.
+//! The fields of messages, with one function for each kind.
 ghost use Rattle.std.specs.Prelude.{false};
 ghost use Rattle.vr_types.specs.declared.message.MsgOf.TheVariants as message;
 ghost use Rattle.pvp_wire.specs.Shape.{as_part};

@@ -1,4 +1,4 @@
-//! Frames: their length, version and kind, and the envelope in them.
+//! How a frame is read: its length, version and kind, and the envelope in it.
 ghost use Rattle.pvp_wire.specs.Reading.{Gives, envelope_at, counted_at, frame_where};
 
 use crate::fault::WireFault;
@@ -20,12 +20,13 @@ const LEAST_LENGTH: usize = 18;
 
 /// Reads the frame at the front of the bytes: the stamped envelope that it spells, and how many bytes it takes.
 ///
-/// Of several faults the first is told: F1 fewer than 4 bytes; F2 a length above 4,194,304; F6 a length below 18; F1
-/// fewer bytes than the length says; F3 the version; F4 the kind; then the fields in their order, F6 where the
+/// Of several faults the first is returned: F1 fewer than 4 bytes; F2 a length above 4,194,304; F6 a length below 18;
+/// F1 fewer bytes than the length says; F3 the version; F4 the kind; then the fields in their order, F6 where the
 /// frame's end cuts one off and F5 where it has a value that it may not have; F6 bytes after the body.
 ///
-/// Memory is taken for rows alone, each as it was read. So F7 comes only from a DOVIEWCHANGE, STARTVIEW, NEWSTATE or
-/// RECOVERYRESPONSE of which at least the first row was read, in place of the envelope or of a fault behind that row.
+/// Memory is taken only for rows, for each after it was read. So F7 comes only from a DOVIEWCHANGE, STARTVIEW,
+/// NEWSTATE or RECOVERYRESPONSE of which at least the first row was read, in place of the envelope or of a fault
+/// behind that row.
 #[tactic(auto, unfolding(crate::specs::Reading::frame_where))]
 pub fn decode(alloc: Global, bytes: &[u8]) -> Result<(Stamped, usize), WireFault>
     ensures { Gives (λ x. x) result (λ refused. frame_where refused bytes.now) }
@@ -68,7 +69,7 @@ fn counted_at(alloc: Global, bytes: &[u8]) -> Result<Stamped, WireFault>
     Ok(stamped)
 }
 
-/// The stamp, to whom the envelope goes, and its message.
+/// The stamp, the receiver, and the message.
 #[tactic(auto, unfolding(crate::specs::Reading::envelope_at))]
 fn envelope_at(alloc: Global, kind: u8, bytes: &[u8]) -> Result<(Stamped, &[u8]), WireFault>
     ensures { Gives (λ x. (x.0, x.1.now)) result (λ refused. envelope_at refused kind bytes.now) }

@@ -11,7 +11,7 @@ use pvp_types::Cmd;
 use std::alloc::Global;
 use vr_types::{RowsOf, StateOf};
 
-/// So many rows.
+/// `count` rows.
 fn rows_from(alloc: Global, count: u16, bytes: &[u8]) -> Result<(RowsOf<Cmd>, &[u8]), WireFault>
     ensures { Gives (λ x. (x.0, x.1.now)) result (λ refused.
         items_from (layout.row.read false) refused count bytes.now) }
@@ -45,7 +45,7 @@ fn state_at(alloc: Global, bytes: &[u8]) -> Result<(StateOf<Cmd>, &[u8]), WireFa
     Ok((StateOf { done, rows }, rest))
 }
 
-/// A flag, and the state where it is 1.
+/// A flag, and the state if the flag is 1.
 #[tactic(auto, unfolding(crate::specs::Layout::option_at))]
 pub fn option_at(alloc: Global, bytes: &[u8]) -> Result<(Option<StateOf<Cmd>>, &[u8]), WireFault>
     ensures { Gives (λ x. (x.0, x.1.now)) result (λ refused. option_at refused bytes.now) }

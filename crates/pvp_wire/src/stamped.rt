@@ -6,8 +6,8 @@ use vr_types::{EnvelopeOf, MsgOf};
 /// A message of the bank's actors.
 pub type Message = MsgOf<Cmd, Reply, PayOrder>;
 
-/// Which envelope this is of all that were sent: the actor that sent it, that actor's clock as it did, and the
-/// envelope's place among those that it sent then, counted from 0.
+/// Which of all sent envelopes this is: its sender, the sender's clock at that moment, and the envelope's place among
+/// those that it sent then, counted from 0.
 #[derive(Clone, Copy, Debug, PartialEq, Eq)]
 pub struct Stamp {
     pub actor: u16,

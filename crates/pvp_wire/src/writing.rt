@@ -1,5 +1,5 @@
-//! The spelling of frames. All of a frame but its rows fits on the stack, and so do the rows of a page, which are written at
-//! once, so that a frame takes no memory.
+//! How a frame is written. All of a frame but its rows fits on the stack, and so do the rows of one page, which are
+//! written at once; so writing a frame takes no memory.
 ghost use Rattle.std.specs.Prelude.{◌≡◌, ◌+◌, ◌*◌, ◌<◌, ◌≤◌, ◌++◌, ◌∷◌, [], true, length, OnOk, option_map};
 ghost use Rattle.std.specs.Io.KnownBytes.{Appends};
 ghost use Rattle.std.specs.List.{flat_map};
@@ -26,16 +26,16 @@ use vr_types::{
     ReplyOf, RequestOf, RowOf, RowsOf, StartViewChange, StartViewOf, StateOf,
 };
 
-/// Bytes on the stack. What of a message stands in front of its rows fits.
+/// Bytes on the stack, with room for all of a message in front of its rows.
 type Piece = ArrayVec<u8, 64>;
 
-/// Bytes on the stack, as many as the rows of a page take: 64 of at most 31. A new one is filled with zeros, so it is no
-/// larger.
+/// Bytes on the stack, with room for the rows of a page: 64 of at most 31 bytes. A new one is filled with zeros, so it
+/// is no larger than that.
 type Page = ArrayVec<u8, 1984>;
 
-/// Writes the one spelling of a stamped envelope, which has to have one: `wireable` tells. It takes no memory.
+/// Writes the one spelling of a stamped envelope, which must have one: see `wireable`. It takes no memory.
 ///
-/// An `Err` is the writer's; how much was written then is not said. A page of rows is written at a time.
+/// An `Err` is the writer's; how much was written by then is not known. Rows are written a page at a time.
 pub fn encode<W: Write>(stamped: &Stamped, writer: &mut W) -> io::Result<()>
     requires { spell.is_wireable stamped.now ≡ true }
     ensures written { OnOk result (Appends (W.contents writer.old) (W.contents writer.new)
@@ -53,7 +53,7 @@ pub fn encode<W: Write>(stamped: &Stamped, writer: &mut W) -> io::Result<()>
     write_rows(msg, writer)
 }
 
-/// The rows with which a message ends.
+/// The rows at the end of a message.
 fn last_rows(msg: &Message) -> Option<&RowsOf<Cmd>>
     ensures { option_map (λ lent. lent.now) result ≡ piece.last_rows msg.now }
 {
@@ -76,7 +76,7 @@ fn rows_of(state: &Option<StateOf<Cmd>>) -> Option<&RowsOf<Cmd>>
     }
 }
 
-/// How many bytes the rows take with which a message ends.
+/// How many bytes the rows at the end of a message take.
 fn rows_len(msg: &Message) -> u32
     ensures exact { result ≡ length (piece.spelled (piece.last_rows msg.now)) }
     ensures few { result ≤ spell.most_rows }
@@ -102,7 +102,7 @@ fn each_len(rows: &RowsOf<Cmd>) -> u32
     len
 }
 
-/// On how many pages the rows of a list lie.
+/// A number of pages on which all rows of a list lie.
 fn page_count(rows: &RowsOf<Cmd>) -> usize
     ensures all { length rows.now ≤ page_rows * result }
     ensures few { length rows.now ≤ MAX_ROWS }
@@ -161,7 +161,7 @@ fn command_len(cmd: Cmd) -> u32
     }
 }
 
-/// Writes the rows with which a message ends.
+/// Writes the rows at the end of a message.
 fn write_rows<W: Write>(msg: &Message, writer: &mut W) -> io::Result<()>
     ensures { OnOk result (Appends (W.contents writer.old) (W.contents writer.new)
         (piece.spelled (piece.last_rows msg.now))) }
@@ -196,7 +196,7 @@ fn write_page<W: Write>(rows: &[RowOf<Cmd>], writer: &mut W) -> io::Result<()>
     writer.write_all(page.as_slice())
 }
 
-/// The length of a frame whose body has so many bytes, and its head.
+/// The length of a frame whose body has `body` bytes, and its head.
 fn push_head(out: &mut Piece, stamped: &Stamped, body: u32)
     requires room { array_vec_len out.old + 22 ≤ piece.room }
     requires short { body ≤ spell.most_body }
@@ -232,7 +232,7 @@ fn push_stamp(out: &mut Piece, stamp: Stamp)
     push_u32(out, stamp.index);
 }
 
-/// The bytes of a field. They go to a piece or to a page.
+/// The bytes of a field, put into a piece or a page.
 fn push_field<const N: usize>(out: &mut ArrayVec<u8, N>, field: &[u8])
     requires { array_vec_len out.old + length field.now ≤ N }
     ensures bytes { out.new.items ≡ out.old.items ++ field.now }
@@ -284,7 +284,7 @@ fn push_u64<const N: usize>(out: &mut ArrayVec<u8, N>, number: u64)
     push_field(out, &field);
 }
 
-/// A byte that tells what follows.
+/// A byte that says what follows.
 fn push_tag<const N: usize>(out: &mut ArrayVec<u8, N>, tag: u8)
     requires { array_vec_len out.old + 1 ≤ N }
     ensures bytes { out.new.items ≡ out.old.items ++ tag ∷ [] }
@@ -324,7 +324,7 @@ fn push_command<const N: usize>(out: &mut ArrayVec<u8, N>, cmd: Cmd)
     }
 }
 
-/// That a member asks for a pay-out.
+/// A member's request for a pay-out.
 fn push_pay_out<const N: usize>(out: &mut ArrayVec<u8, N>, ccy: u8, amt: u64)
     requires { array_vec_len out.old + 10 ≤ N }
     ensures bytes { out.new.items ≡ out.old.items ++ layout.command.spell (PayOut ccy amt) }
@@ -334,7 +334,7 @@ fn push_pay_out<const N: usize>(out: &mut ArrayVec<u8, N>, ccy: u8, amt: u64)
     push_leg(out, ccy, amt);
 }
 
-/// That a pay-out is paid.
+/// A node's report that it paid an order.
 fn push_paid<const N: usize>(out: &mut ArrayVec<u8, N>, ccy: u8, number: u32)
     requires { array_vec_len out.old + 6 ≤ N }
     ensures bytes { out.new.items ≡ out.old.items ++ layout.command.spell (Paid ccy number) }
@@ -345,7 +345,7 @@ fn push_paid<const N: usize>(out: &mut ArrayVec<u8, N>, ccy: u8, number: u32)
     push_u32(out, number);
 }
 
-/// That a pay-out could not be paid.
+/// A node's report that it returned an order.
 fn push_returned<const N: usize>(out: &mut ArrayVec<u8, N>, ccy: u8, number: u32)
     requires { array_vec_len out.old + 6 ≤ N }
     ensures bytes { out.new.items ≡ out.old.items ++ layout.command.spell (Returned ccy number) }
@@ -456,7 +456,7 @@ fn push_row<const N: usize>(out: &mut ArrayVec<u8, N>, row: RowOf<Cmd>)
     push_command(out, row.cmd);
 }
 
-/// How many rows there are. They come behind it.
+/// How many rows there are. The rows themselves follow it.
 #[tactic(auto, unfolding(crate::specs::Layout::rows))]
 fn push_count(out: &mut Piece, rows: &RowsOf<Cmd>)
     requires { array_vec_len out.old + 2 ≤ piece.room }
@@ -467,7 +467,7 @@ fn push_count(out: &mut Piece, rows: &RowsOf<Cmd>)
     push_u16(out, rows.len() as u16);
 }
 
-/// Of how many sites the boots are told, and the boot number of each.
+/// The number of sites, then the boot number of each.
 #[tactic(auto, unfolding(crate::specs::Layout::boots))]
 fn push_boots(out: &mut Piece, known: &Known)
     requires room { array_vec_len out.old + 29 ≤ piece.room }
@@ -482,7 +482,7 @@ fn push_boots(out: &mut Piece, known: &Known)
     }
 }
 
-/// 0, or 1 and the state in front of its rows.
+/// 0, or 1 and the part of the state in front of its rows.
 #[tactic(auto, unfolding(crate::specs::Layout::state))]
 fn push_state(out: &mut Piece, state: &Option<StateOf<Cmd>>)
     requires { array_vec_len out.old + 5 ≤ piece.room }
@@ -531,7 +531,7 @@ fn push_view_and_place(out: &mut Piece, view: u32, place: u16)
     push_u16(out, place);
 }
 
-/// The fields of a message in front of its last rows.
+/// The fields of a message in front of the rows at its end.
 fn push_front(out: &mut Piece, msg: &Message)
     requires count { spell.has_site_count (known_in msg.now) ≡ true }
     requires room { array_vec_len out.old + 42 ≤ piece.room }
@@ -625,7 +625,7 @@ fn push_new_state(out: &mut Piece, msg: &NewStateOf<Cmd>)
     push_count(out, &msg.rows);
 }
 
-/// What a site answers to a recovering one.
+/// The answer of a site to a recovering one, without its rows.
 #[tactic(auto, unfolding(crate::specs::Layout::recovery_response))]
 fn push_regained(out: &mut Piece, msg: &RecoveryResponseOf<Cmd>)
     requires count { spell.is_site_count (length msg.now.known) ≡ true }
@@ -641,7 +641,7 @@ fn push_regained(out: &mut Piece, msg: &RecoveryResponseOf<Cmd>)
     push_state(out, &msg.state);
 }
 
-/// What a client is answered.
+/// The answer to a client.
 #[tactic(auto, unfolding(crate::specs::Layout::answer))]
 fn push_answer(out: &mut Piece, msg: ReplyOf<Reply>)
     requires { array_vec_len out.old + 13 ≤ piece.room }

@@ -21,7 +21,7 @@ pub record IsStep (old new : ShownClient) (step : ClientStep) (sent : List Envel
   pub sends : sent ≡ step.sent
   pub client : new ≡ record old { client = step.client }
 
--- the client is as it was: the step is a refusal, or it sends, for which memory was refused
+-- the client is as it was: the step is a refusal, or it sends something, for which memory was refused
 pub record IsRefusal (old new : ShownClient) (step : ClientStep) (fault : ClientFault) : Type 0 where
   pub client : new ≡ old
   pub why : (step.fault ≡ Some fault) ⊎ ((fault ≡ NoMemory) × (step.fault ≡ None) × (0 < length step.sent))

@@ -1,4 +1,4 @@
--- What a world does with a fall that is told by its step and by what the cell then holds.
+-- What a world does with a fall that is given by its step and by what the cell then holds.
 use Rattle.std.specs.Prelude.{◌≡◌, ◌≢◌, ◌⊎◌, Bool, true, false, slice_get, Some, Result, Ok, Err}
 use Rattle.pvp_types.specs.declared.setup.Setup.{Setup}
 use Rattle.pvp_types.specs.declared.command.Cmd.{Cmd}
@@ -28,7 +28,7 @@ HoldsAnother {B} held world cell (OfSite i event) =
     (v : ShownSite Cmd Setup B) × (slice_get world.sites i ≡ Some v) × (held v.cell ≢ cell)
 HoldsAnother held world cell _ = ⊥
 
--- the site fell in place of the step over another value than this, which was not the old one either
+-- the site fell in place of the step over another value than this, which was not the old value either
 pub record FellElsewhere {B : Type 0} (held : B → Boot) (old new : ShownWorld B) (step : Step) (cell : Boot)
     : Type 0 where
   pub other : Boot
@@ -42,23 +42,23 @@ pub record FellAsSaved {B : Type 0} (held : B → Boot) (old new : ShownWorld B)
   pub fell : FellElsewhere held old new step cell
   pub saved : IsOverSaved held old new step fell.other fell.moves
 
--- why the step has no fall: as it is not taken, or it is no site's
+-- why the step has no fall: it is not taken, or it is not one of a site
 abbrev pub IsWhyNot : {B : Type 0} → (B → Boot) → ShownWorld B → Step → WorldFault → Type 0
 IsWhyNot held world step fault =
     IsWhy held world step fault ⊎ ((fault ≡ NoSuchActor) × InTurn world step (λ t. is_of_site t ≡ false))
 
--- the world is as it was; but where the site met want of memory or a failed save, it fell elsewhere
+-- the world is as it was; but if the site met lack of memory or a failed save, it fell over another value
 pub record IsUnfallen {B : Type 0} (held : B → Boot) (old new : ShownWorld B) (step : Step) (cell : Boot)
     (fault : WorldFault) : Type 0 where
   pub kept : is_world_fall fault ≡ false → (new ≡ old) × IsWhyNot held old step fault
   pub fell : is_world_fall fault ≡ true → FellElsewhere held old new step cell
 
--- what a fall over another value is told as
+-- the faults of a fall over another value
 abbrev pub is_miss : FallFault → Bool
 is_miss Elsewhere = true
 is_miss (OfStep fault) = is_world_fall fault
 
--- THE FALL IS THE MOVE, or there is none, or it is another
+-- THE FALL IS THE MOVE, or there is none, or another fall is the move
 abbrev pub FallsTo : {B : Type 0} → (B → Boot) → ShownWorld B → ShownWorld B → Step → Boot → Result (Unit {0}) FallFault
     → Type 0
 FallsTo held old new step cell (Ok _) = Moves held old new (Falls step cell)

@@ -1,4 +1,4 @@
--- What is printed of a step that was not taken: a code.
+-- How a step that was not taken is printed: its code.
 use Rattle.std.specs.Prelude.{ℕ, List, codes}
 use Rattle.vr_types.specs.declared.event.SiteFault.{SiteFault}
 use Rattle.vr_types.specs.declared.event.SiteFault.TheVariants as site

@@ -11,7 +11,7 @@ use Rattle.vr_site.specs.Replica.{ShownSite}
 use Rattle.headline.specs.Progress as progress
 use Rattle.pvp_world.specs.World.{ShownWorld, OfTrail}
 
--- where the trail leads the bank has what it needs to go on
+-- the bank that the trail leads to has what it needs to go on
 abbrev pub CanGoOn : {B : Type 0} → ShownWorld B → Type 0
 CanGoOn world = OfTrail world (λ list. progress.CanGoOn (faults world.setup) list.bank)
 
@@ -26,7 +26,7 @@ running_count world = count_by (λ site. is_running site.volatile.status) world.
 abbrev pub unanswered_count : {B : Type 0} → ShownWorld B → ℕ
 unanswered_count world = sum_by (λ shown. length shown.node.notices - shown.node.answered) world.nodes
 
--- the view of a site is not near its end, and its log has room for what may come to be asked
+-- the view of a site is not near its end, and its log has room for what may still be asked
 abbrev pub has_room : {B : Type 0} → ShownWorld B → ShownSite Cmd Setup B → Bool
 has_room world site =
     nat_le (site.volatile.view + 2 * (2 * faults world.setup + 1)) max_number

@@ -1,4 +1,4 @@
--- Why a bank refuses a step, where nothing hinders it: by the bank and the step alone; and what hinders a step.
+-- Why a bank refuses a step where nothing hinders it, by the bank and the step alone; and what hinders a step.
 use Rattle.std.specs.Prelude.{◌≡◌, ℕ, Bool, true, false, slice_get, Option, Some, None, option_map}
 use Rattle.pvp_types.specs.declared.setup.Setup.{Setup}
 use Rattle.pvp_types.specs.Setup.{faults}
@@ -108,8 +108,8 @@ abbrev pub wants_fall : FallFault → Bool
 wants_fall (fall_fault.Step why) = wants why
 wants_fall fall_fault.Elsewhere = false
 
--- A MOVE THAT A WORLD'S TRAIL ALLOWS: the trail is a legal list over the first values of its cells, which goes on with
--- it
+-- A MOVE THAT A WORLD'S TRAIL ALLOWS: the trail is a legal list over the first values of its cells, and the move can
+-- follow it
 pub record IsAllowed {B : Type 0} (world : ShownWorld B) (move : Move) : Type 0 where
   pub list : LegalList world.setup (faults world.setup)
   pub cells : list.cells ≡ world.opening

@@ -42,13 +42,13 @@ use Rattle.pvp_world.specs.declared.report.Report.{Report}
 
 -- THE REPORT
 
--- of what was put on a post, and why an event was dropped
+-- what was put on a post, and why an event was dropped
 pub record IsReport (post posted : List Envelope) (why : Option Why) (report : Report) : Type 0 where
   pub count : length posted ≡ length post + report.count
   pub first : report.first ≡ (if report.count == 0 then 0 else length post + 1)
   pub dropped : report.dropped ≡ why
 
--- why an actor's turn was dropped: sites alone drop
+-- why an actor's event was dropped: only sites drop events
 abbrev pub dropped_in : (setup : Setup) (choose : Choice Cmd) (f : ℕ) (bank : Bank) (t : Turn) (after : Bank)
     → Acts setup choose f bank t after → Option Why
 dropped_in setup choose f bank (OfSite i event) after acts =
@@ -56,7 +56,7 @@ dropped_in setup choose f bank (OfSite i event) after acts =
 dropped_in setup choose f bank (OfNode c event) after acts = None
 dropped_in setup choose f bank (OfClient k event) after acts = None
 
--- A MOVE: by a legal list of what is shown before, it leads to what is shown after, and it stands at the trail's end
+-- A MOVE: by a legal list of what is shown before, it leads to what is shown after, and it is added at the trail's end
 pub record Moves {B : Type 0} (held : B → Boot) (old new : ShownWorld B) (move : Move) : Type 0 where
   pub list : LegalList old.setup (faults old.setup)
   pub cells : list.cells ≡ old.opening
@@ -80,17 +80,17 @@ pub record IsTaken {B : Type 0} (held : B → Boot) (old new : ShownWorld B) (st
 
 -- A STEP THAT WAS NOT TAKEN
 
--- the actor whose turn it is is there
+-- the actor of a turn is there
 abbrev pub has_actor : {B : Type 0} → ShownWorld B → Turn → Bool
 has_actor world (OfSite i event) = nat_lt i (length world.sites)
 has_actor world (OfNode c event) = nat_lt c (length world.nodes)
 has_actor world (OfClient k event) = nat_lt k (length world.clients)
 
--- the actor of a number is there, to beat
+-- the actor of a number is there, to take a beat
 abbrev pub has_number : {B : Type 0} → ShownWorld B → ℕ → Bool
 has_number world actor = has_actor world (turn_of actor Beat node_event.Beats client_event.Beats)
 
--- it is some actor's turn, which is there or not
+-- the step is for some actor, which is there or not
 pub record IsTurn {B : Type 0} (world : ShownWorld B) (step : Step) (is_there : Bool) : Type 0 where
   pub turn_is : Turn
   pub has_turn : turn world.post step ≡ Some turn_is
@@ -131,7 +131,7 @@ is_world_fall (OfNodeFault fault) = false
 is_world_fall Spent = false
 is_world_fall NoMemory = false
 
--- what a client's fault is told as
+-- the world's fault for a client's fault
 abbrev pub told_as : ClientFault → WorldFault
 told_as client_fault.Outstanding = Outstanding
 told_as client_fault.Spent = Spent
@@ -141,8 +141,8 @@ told_as client_fault.NoMemory = NoMemory
 abbrev pub InTurn : {B : Type 0} → ShownWorld B → Step → (Turn → Type 0) → Type 0
 InTurn world step Is = (t : Turn) × (turn world.post step ≡ Some t) × Is t
 
--- why a step was not taken: the number is of no envelope, then the actor is not there; only then memory was refused, or
--- the actor refuses
+-- why a step was not taken: the number is of no envelope, then the actor is not there; only then was memory refused,
+-- or did the actor refuse
 abbrev pub IsWhy : {B : Type 0} → (B → Boot) → ShownWorld B → Step → WorldFault → Type 0
 IsWhy held world step NoSuchEnvelope = turn world.post step ≡ None
 IsWhy held world step NoSuchActor = IsTurn world step false
@@ -175,8 +175,8 @@ IsOverSaved held old new step cell moves =
     let by : Fails old.setup moves.list.choose (faults old.setup) moves.list.bank step cell moves.after = moves.leads in
     cell ≡ saved_in old.setup moves.list.choose (faults old.setup) moves.list.bank by.turn_is cell moves.after by.falls
 
--- A FALL, which is the move: only of a site that would handle its event, and neither drop nor refuse it, and by no
--- crash
+-- A FALL, which is the move: only a site falls that would handle its event, and neither drop nor refuse it, and only
+-- at an event that is no crash
 pub record HasFallen {B : Type 0} (held : B → Boot) (old new : ShownWorld B) (step : Step) : Type 0 where
   pub cell : Boot
   pub moves : Moves held old new (Falls step cell)
@@ -186,7 +186,7 @@ pub record HasFallen {B : Type 0} (held : B → Boot) (old new : ShownWorld B) (
       ≡ Handled
   pub no_crash : (site : ℕ) → step ≢ Crash site
 
--- the world is as it was; but where a site fell, that is the move
+-- the world is as it was; but if a site fell, that is the move
 pub record IsRefused {B : Type 0} (held : B → Boot) (old new : ShownWorld B) (step : Step) (fault : WorldFault)
     : Type 0 where
   pub kept : is_world_fall fault ≡ false → (new ≡ old) × IsWhy held old step fault
@@ -207,7 +207,7 @@ AreReliable {B} c world = (i : ℕ) (v : ShownSite Cmd Setup B) → slice_get wo
 abbrev pub failures : {B : Type 0} → Cell B → ShownWorld B → List ℕ
 failures c world = map (λ v. c.faults v.cell) world.sites
 
--- of the site whose turn the step is one more save failed, and all other sites are as they were
+-- one more save of the cell of the step's site failed, and all other sites are as they were
 pub record HasFailed {B : Type 0} (c : Cell B) (old new : ShownWorld B) (step : Step) : Type 0 where
   pub site : ℕ
   pub event : EventOf Cmd Answer PaymentOrder
@@ -218,8 +218,8 @@ pub record HasFailed {B : Type 0} (c : Cell B) (old new : ShownWorld B) (step : 
   pub changes : new.sites ≡ slice_set old.sites site after
   pub one_more : HasRisen (c.faults before.cell) (c.faults after.cell)
 
--- A step tells a failed save, and nothing else as one: then the count of its site's cell rises, and else no count does.
--- Where no cell's saves fail, none did.
+-- A step reports a failed save exactly where there was one: then the count of its site's cell rises, and otherwise no
+-- count does. Where no cell's saves fail, none did.
 pub record TellsFailures {B : Type 0} (c : Cell B) (old new : ShownWorld B) (step : Step)
     (result : Result Report WorldFault) : Type 0 where
   pub failed : result ≡ Err (OfSiteFault site_fault.CellFault) → HasFailed c old new step

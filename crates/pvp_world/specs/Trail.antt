@@ -7,12 +7,12 @@ use Rattle.headline.specs.declared.step.Move.TheVariants.{Takes}
 use Rattle.pvp_world.specs.declared.trail.TrailEntry.{TrailEntry}
 use Rattle.pvp_world.specs.declared.trail.TrailEntry.TheVariants.{Delivery, Other}
 
--- WHAT A TRAIL SHOWS: the moves that were made, and for how many more it has room
+-- WHAT A TRAIL SHOWS: the moves that were made, and the number of moves that there is still room for
 pub record Moves : Type 0 where
   pub items : List Move
   pub room : ℕ
 
--- the move that an entry stands for, where these are the moves that are no deliveries
+-- the move that an entry stands for, where these are the moves that are not deliveries
 abbrev pub move_of : List Move → TrailEntry → Move
 move_of others (Delivery number) = Takes (Deliver number)
 move_of others (Other place) = slice_index_or others place (Takes (Deliver 0))

@@ -39,7 +39,7 @@ world_of setup opening sites nodes clients post trail =
       trail = trail;
     }
 
--- as many of these as of those, and each is so of the one in its place
+-- as many of these as of those, and each stands in this relation to the one in its place
 pub record AreEach {A B : Type 0} (Is : ℕ → A → B → Type 0) (xs : List A) (ys : List B) : Type 0 where
   pub count : length xs ≡ length ys
   pub each : (i : ℕ) (x : A) (y : B) → slice_get xs i ≡ Some x → slice_get ys i ≡ Some y → Is i x y
@@ -74,15 +74,15 @@ pub record IsAt {B : Type 0} (held : B → Boot) (world : ShownWorld B) : Type 0
   pub moves : list.moves ≡ world.trail
   pub shows : ShowsBank held world list.bank
 
--- this holds of the legal list that the world's trail is, whatever right choices its steps take as given
+-- this holds of the legal list that is the world's trail, whatever right choices its steps take as given
 abbrev pub OfTrail : {B : Type 0} (world : ShownWorld B)
     → (LegalList world.setup (faults world.setup) → Type 0) → Type 0
 OfTrail world Holds =
     (list : LegalList world.setup (faults world.setup))
     → list.cells ≡ world.opening → list.moves ≡ world.trail → Holds list
 
--- AND THE HEADLINE HOLDS: the world shows what its trail leads to, and of any two moments of the trail, an early and a
--- late one with the rest of the trail behind them, the headline is so
+-- AND THE HEADLINE HOLDS: the world shows what its trail leads to, and the headline holds of any two moments of the
+-- trail, an early one and a late one, with the rest of the trail behind them
 pub record IsProved {B : Type 0} (held : B → Boot) (world : ShownWorld B) : Type 0 where
   pub is_at : IsAt held world
   pub shows : OfTrail world (λ list. ShowsBank held world list.bank)

@@ -1,3 +1,4 @@
+//! A client of the bank: its one request at a time, and the answer to it.
 ghost use Rattle.std.specs.Prelude.{◌≡◌, ◌≤◌, length, IfOk, IfErr};
 
 use headline::{ClientEvent, ClientFault};
@@ -42,7 +43,7 @@ impl Client {
     ghost use Rattle.headline.specs.Client.{opening_client};
     ghost use Rattle.pvp_world.specs.Client.{step_of, IsStep, IsRefusal};
 
-    /// The client of this number, 0 for the operator or a member's, which has asked for nothing yet.
+    /// The client of this number, which has asked for nothing yet: 0 for the operator, or a member's number.
     pub fn new(setup: &Setup, number: u16) -> Self
         requires valid { IsValid setup.now }
         requires known { number ≤ length setup.now.members }
@@ -57,8 +58,8 @@ impl Client {
         }
     }
 
-    /// Handles an event, by the call of its kind: `submit`, `take` or `beat`. Answers what is sent. After an `Err` the
-    /// client is as it was.
+    /// Handles an event, by the call for its kind: `submit`, `take` or `beat`. Answers what is sent. After an `Err`
+    /// the client is as it was.
     pub fn handle(
         &mut self,
         alloc: Global,
@@ -75,8 +76,8 @@ impl Client {
         }
     }
 
-    /// Asks for this under the next number: a REQUEST goes to every site. `Outstanding` is tested first, then `Spent`;
-    /// `NoMemory` comes after them. After an `Err` the client is as it was.
+    /// Makes this request under the next number: a REQUEST goes to every site. `Outstanding` is tested first, then
+    /// `Spent`; `NoMemory` comes after them. After an `Err` the client is as it was.
     pub fn submit(&mut self, alloc: Global, cmd: Cmd) -> Result<Vec<Envelope<Book>>, ClientFault>
         ensures taken { IfOk result (λ sent. IsStep self.old self.new
             (step_of self.old (Submits cmd)) sent.items) }
@@ -98,7 +99,7 @@ impl Client {
         Ok(sent)
     }
 
-    /// An envelope comes. A REPLY with the number of the request that waits answers it; anything else does nothing. It
+    /// Takes an envelope. A REPLY with the number of the request that waits answers it; anything else does nothing. It
     /// sends nothing and takes no memory.
     pub fn take(&mut self, alloc: Global, envelope: Envelope<Book>) -> Vec<Envelope<Book>>
         ensures { IsStep self.old self.new (step_of self.old (Takes envelope)) result.items }
@@ -112,7 +113,7 @@ impl Client {
         Vec::new(alloc)
     }
 
-    /// The request that waits goes to every site again. The client stays as it is, and the only fault is `NoMemory`.
+    /// Sends the request that waits to every site again. The client stays as it is, and the only fault is `NoMemory`.
     pub fn beat(&self, alloc: Global) -> Result<Vec<Envelope<Book>>, ClientFault>
         ensures taken { IfOk result (λ sent. IsStep self.now self.now
             (step_of self.now Beats) sent.items) }
@@ -131,14 +132,14 @@ impl Client {
         self.faults
     }
 
-    /// The number of its last request, 0 where it has made none.
+    /// The number of its last request; 0 if it has made none.
     pub fn number(&self) -> u32
         ensures { result ≡ self.now.client.number }
     {
         self.number
     }
 
-    /// The answer to its last request, where it came.
+    /// The answer to its last request, if it came.
     pub fn answer(&self) -> Option<Reply>
         ensures { result ≡ self.now.client.answer }
     {

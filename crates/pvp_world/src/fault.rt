@@ -1,3 +1,4 @@
+//! The faults of a world, and how they are printed.
 ghost use Rattle.std.specs.Prelude.{◌≡◌};
 ghost use Rattle.pvp_world.specs.Fault.{site_fault_text};
 ghost use Rattle.pvp_world.specs.Steps.{told_as};
@@ -22,12 +23,12 @@ pub enum WorldFault {
     Node(NodeFault),
     /// C1: the client's request numbers are spent.
     Spent,
-    /// G5: memory was refused to the trail, the post, a client, or the copy of an envelope that is delivered.
+    /// G5: memory was refused for the trail, the post, a client, or the copy of an envelope that is delivered.
     NoMemory,
 }
 
 impl WorldFault {
-    /// What a client's fault is told as.
+    /// The world's fault for a client's fault.
     pub fn of_client(fault: ClientFault) -> Self
         ensures { result ≡ told_as fault }
     {
@@ -39,16 +40,17 @@ impl WorldFault {
     }
 }
 
-/// Why a fall was not taken as it was told.
+/// Why a fall was not taken as it was asked for.
 #[derive(Clone, Copy, Debug, PartialEq, Eq)]
 pub enum FallFault {
-    /// Why its step would not be taken, or that it is no site's (G2); S1 or S2 where the site so met another value.
+    /// Why the step has no fall: it would not be taken, or it is not one of a site (G2). Or S1 or S2, which the site
+    /// met as it fell over another value.
     Step(WorldFault),
-    /// G6: the site's cell then holds another value than it was told to, which is what the step saves.
+    /// G6: the site's cell then holds another value than the one asked for, and that is what the step saves.
     Elsewhere,
 }
 
-/// Prints the fault's code; of an actor's fault that fault's own: S1 to S7, N1 to N7 or C1.
+/// Prints the fault's code; for an actor's fault its own: S1 to S7, N1 to N7 or C1.
 impl fmt::Display for WorldFault {
     ghost use Rattle.std.specs.Prelude.{Some};
     ghost use Rattle.pvp_world.specs.Fault.{fault_text};

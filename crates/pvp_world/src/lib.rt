@@ -1,5 +1,5 @@
-//! The bank in its world: all sites, the nodes, the clients, every envelope that was ever sent, and the trail of what was
-//! done. On the calls of `World` stands the headline.
+//! The bank in its world: all sites, the nodes, the clients, every envelope that was ever sent, and the trail of what
+//! was done. The contracts of the calls of `World` have the headline.
 #![tactic(auto)]
 
 pub mod client;

@@ -14,14 +14,14 @@ use std::alloc::{AllocError, Global};
 use vr_site::Replica;
 use vr_types::{Boot, BootCell, Config};
 
-/// What cells hold.
+/// The values that cells hold. `Err` where memory is refused.
 pub fn held_by<C: BootCell>(alloc: Global, cells: &[C]) -> Result<Vec<Boot>, AllocError>
     ensures { IfOk result (λ held. held.items ≡ map C.held cells.now) }
 {
     cells.iter().map(|cell| cell.load()).collect(alloc)
 }
 
-/// A site over each cell.
+/// A site over each cell. `Err` where memory is refused.
 pub fn sites_over<C: BootCell>(
     alloc: Global,
     setup: &Setup,
@@ -42,7 +42,7 @@ pub fn sites_over<C: BootCell>(
     Ok(sites)
 }
 
-/// A node for each currency.
+/// A node for each currency. `Err` where memory is refused.
 pub fn nodes_of(alloc: Global, setup: &Setup) -> Result<Vec<Node>, AllocError>
     requires { IsValid setup.now }
     ensures { IfOk result (λ nodes. AreEach (IsNode setup.now) nodes.items
@@ -55,7 +55,7 @@ pub fn nodes_of(alloc: Global, setup: &Setup) -> Result<Vec<Node>, AllocError>
     Ok(nodes)
 }
 
-/// The operator and the members.
+/// The operator and the members. `Err` where memory is refused.
 pub fn clients_of(alloc: Global, setup: &Setup) -> Result<Vec<Client>, AllocError>
     requires { IsValid setup.now }
     ensures { IfOk result (λ clients. AreEach (IsClient setup.now) clients.items

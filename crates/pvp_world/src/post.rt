@@ -15,7 +15,7 @@ use vr_types::{BootCell, Envelope, Event, SiteFault, Why};
 /// The greatest number of envelopes that a node or a client sends at once: one to each site.
 pub const MOST_SENT: usize = 7;
 
-/// A site handles an event, and what it sends goes on the post. Where the post cannot take it the site falls.
+/// A site handles an event, and what it sends is put on the post. If memory is refused for the post, the site falls.
 pub fn serve<C: BootCell>(
     alloc: Global,
     site: &mut Replica<Book, C>,
@@ -43,14 +43,15 @@ pub fn serve<C: BootCell>(
     }
 }
 
-/// Whether a site's fault leaves it down, where the others leave it as it was.
+/// Whether a site's fault leaves it down; all others leave it as it was.
 pub fn is_fall(fault: SiteFault) -> bool
     ensures { result ≡ is_fall fault }
 {
     matches!(fault, SiteFault::NoMemory | SiteFault::CellFault)
 }
 
-/// Puts what was sent on the post. `Err` where memory is refused, which none is to put nothing: the post is then as it was.
+/// Puts what was sent on the post. `Err` where memory is refused, and the post is then as it was; to put nothing never
+/// fails.
 fn put(
     post: &mut Vec<Envelope<Book>>,
     mut sent: Vec<Envelope<Book>>,
@@ -78,7 +79,7 @@ fn put(
     })
 }
 
-/// Puts what was sent on a post that has room for it.
+/// Puts what was sent on a post that must have room for it.
 pub fn put_in_room(post: &mut Vec<Envelope<Book>>, mut sent: Vec<Envelope<Book>>) -> Report
     requires { vec_len post.old + length sent.items ≤ vec_capacity post.old }
     ensures posted { post.new.items ≡ post.old.items ++ sent.items }

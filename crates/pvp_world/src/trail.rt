@@ -6,21 +6,22 @@ use pvp_types::Step;
 use std::alloc::{AllocError, Global};
 use std::marker::Model;
 
-/// The moves that were made in a world, in their order. Most are deliveries, and one of these takes a fifth of the
-/// memory of any other. In clauses it is their list, and for how many more there is room.
+/// The moves that were made in a world, in their order. Most are deliveries, and a delivery takes a fifth of the
+/// memory of any other move. In clauses it is the list of the moves, and the number of moves that there is still room
+/// for.
 #[derive(Drop)]
 pub struct Trail {
     entries: Vec<TrailEntry>,
-    /// The moves that are no deliveries, in their order.
+    /// The moves that are not deliveries, in their order.
     others: Vec<Move>,
 }
 
-/// A move as it lies on a trail.
+/// A move as it is stored on a trail.
 #[derive(Clone, Copy)]
 enum TrailEntry {
     /// The delivery of the envelope of this number.
     Delivery(usize),
-    /// The one at this place of the others.
+    /// The move at this place among the others.
     Other(usize),
 }
 
@@ -84,7 +85,7 @@ impl Trail {
         self.get(self.len().saturating_sub(1))
     }
 
-    /// Makes room for one move more. `Err` where memory is refused.
+    /// Makes room for one more move. `Err` where memory is refused.
     pub fn reserve(&mut self) -> Result<(), AllocError>
         ensures items { self.new.items ≡ self.old.items }
         ensures room { OnOk result (0 < self.new.room) }
@@ -93,7 +94,7 @@ impl Trail {
         self.others.reserve(1)
     }
 
-    /// Puts a move at the end, where there is room.
+    /// Puts a move at the end, where there must be room.
     pub fn push(&mut self, made: Move)
         requires { 0 < self.old.room }
         ensures { self.new.items ≡ self.old.items ++ made ∷ [] }
@@ -112,7 +113,7 @@ impl Trail {
         self.entries.push_reserved(TrailEntry::Delivery(number));
     }
 
-    /// Puts a move at the end that is no delivery.
+    /// Puts a move that is not a delivery at the end.
     fn push_other(&mut self, made: Move)
         requires { 0 < self.old.room }
         ensures { self.new.items ≡ self.old.items ++ made ∷ [] }

@@ -1,4 +1,4 @@
-//! Whose turn a step is.
+//! Which actor a step is for.
 ghost use Rattle.std.specs.Prelude.{◌≡◌};
 ghost use Rattle.vr_types.specs.declared.event.EventOf.TheVariants.{Beat};
 ghost use Rattle.rtgs_node.specs.declared.event.NodeEvent.TheVariants as node;
@@ -21,7 +21,7 @@ pub fn delivery(envelope: Envelope<Book>) -> Turn
     }
 }
 
-/// It is time for an actor to say again what may have been lost.
+/// It is time for an actor to send again what may have been lost.
 pub fn beat(actor: u16) -> Turn
     ensures { result ≡ turn_of actor Beat node.Beats client.Beats }
 {

@@ -1,3 +1,4 @@
+//! The world of a bank: the calls that take steps, and what can be read of it.
 ghost use Rattle.std.specs.Prelude.{◌≡◌, ◌≢◌, ◌+◌, ◌*◌, ◌<◌, ◌==◌, ◌-◌, ◌≤◌, [], true, false, None, Some, Err, List, length, map, slice_get, if◌then◌else◌, IfOk, OnOk, IfErr, OnErr, option_map, vec_len, vec_capacity, min, count_by, IsTrue, ◌↔◌};
 ghost use Rattle.vr_types.specs.Site.{is_running};
 
@@ -19,8 +20,8 @@ use std::marker::Model;
 use vr_site::Replica;
 use vr_types::{Boot, BootCell, Envelope, Event, EventOf, MAX_ROWS, Status};
 
-/// The bank in its world: 2f+1 sites over their boot cells, a node for each currency, the clients, and the post, which has
-/// every envelope that was ever sent, numbered from 1. The trail has what was done.
+/// The bank in its world: 2f+1 sites over their boot cells, a node for each currency, the clients, and the post, which
+/// has every envelope that was ever sent, numbered from 1. The trail has what was done.
 #[derive(Drop)]
 pub struct World<C: BootCell> {
     setup: Setup,
@@ -61,8 +62,8 @@ impl<C: BootCell> World<C> {
     ghost use Rattle.pvp_world.specs.declared.fault.WorldFault.TheVariants.{Site as OfSiteFault, NoMemory as OutOfMemory};
     ghost use Rattle.vr_types.specs.declared.event.SiteFault.TheVariants.{CellFault};
 
-    /// The world of a setup over one cell for each site, before anything was done: a site over a new cell is normal with
-    /// an empty log, over any other it is down. `Err` where memory is refused.
+    /// The world of a setup over one cell for each site, before anything was done: a site over a new cell is normal
+    /// with an empty log; over any other cell it is down. `Err` where memory is refused.
     pub fn new(alloc: Global, setup: &Setup, cells: Vec<C>) -> Result<Self, AllocError>
         requires valid { IsValid setup.now }
         requires sites { length cells.items ≡ 2 * faults setup.now + 1 }
@@ -86,10 +87,11 @@ impl<C: BootCell> World<C> {
         Ok(world)
     }
 
-    /// Takes a step: `NoSuchEnvelope` and `NoSuchActor` are tested first, then the actor takes its turn. Answers what it
-    /// sent, and where a site dropped the event why. After an `Err` the world is as it was; but after `NoMemory` and
-    /// `CellFault` of a site that site is down, and the trail has its fall: `CellFault` where a save of its cell failed.
-    /// An event that a site drops or refuses, and a crash, never end so. A step that was taken is on the trail.
+    /// Takes a step: `NoSuchEnvelope` and `NoSuchActor` are tested first, then the actor handles its event. Answers
+    /// what it sent, and why a site dropped the event, if it did. After an `Err` the world is as it was, except after
+    /// a site's `NoMemory` or `CellFault`: then that site is down, and the trail has its fall; `CellFault` says that a
+    /// save of its cell failed. An event that a site drops or refuses, and a crash, never end in this way. A step that
+    /// was taken is on the trail.
     pub fn apply(&mut self, alloc: Global, step: Step) -> Result<Report, WorldFault>
         ensures applies { Applies C.held self.old self.new step result }
         ensures headline { IsProved C.held self.new }
@@ -100,8 +102,8 @@ impl<C: BootCell> World<C> {
         result
     }
 
-    /// Takes steps one after another, up to the first that is not taken; then the trail has those before it, and after a
-    /// site's `NoMemory` or `CellFault` that site's fall.
+    /// Takes steps one after another, up to the first that is not taken; the trail then has those before it, and,
+    /// after a site's `NoMemory` or `CellFault`, that site's fall.
     pub fn run(&mut self, alloc: Global, steps: &[Step]) -> Result<(), WorldFault>
         ensures taken { OnOk result (AreTaken self.old self.new steps.now) }
         ensures stopped { IfErr result (IsStopped C.BootCell self.old self.new steps.now) }
@@ -120,7 +122,7 @@ impl<C: BootCell> World<C> {
         Ok(())
     }
 
-    /// The headline, of what the world shows and of any two moments of its trail. It does nothing.
+    /// The headline for what the world shows, and for any two moments of its trail. It does nothing.
     pub fn is_proved(&self)
         ensures { IsProved C.held self.now }
     {
@@ -129,11 +131,11 @@ impl<C: BootCell> World<C> {
         headline::one_bank();
     }
 
-    /// Whether the bank has what it needs to go on: more sites run than may fail at once, no site's view is near its end,
-    /// and each log has room for what may come to be asked. Where it does, the trail is no dead end: by deliveries, beats,
-    /// timers and restarts alone the bank can go on until its sites work in one view with one log, which begins with all
-    /// that any site ever executed; each request and each notice is answered, each order is done or returned, and told to
-    /// the book; and nothing is on the way: each node's account is the figure of that log's book.
+    /// Whether the bank has what it needs to go on: more sites run than may fail at once, no site's view is near its
+    /// end, and each log has room for what may still be asked. If it has, the trail is no dead end: by deliveries,
+    /// beats, timers and restarts alone the bank can go on until its sites work in one view with one log, which begins
+    /// with all that any site ever executed; each request and each notice is answered, each order is done or returned,
+    /// and reported to the book; and nothing is on the way: each node's account is the figure of that log's book.
     pub fn can_go_on(&self) -> bool
         ensures is { result ≡ can_go_on self.now }
         ensures exact { IsTrue result ↔ CanGoOn self.now }
@@ -211,7 +213,7 @@ impl<C: BootCell> World<C> {
         self.sites.iter().all(|site| self.has_room(site, notices))
     }
 
-    /// How many notices of nodes are not answered; what no log has room for stands for any more.
+    /// How many notices of nodes are not answered; if there are more than a log has room for, one more than that.
     fn unanswered_count(&self) -> usize
         ensures { result ≡ min (unanswered_count self.now) (MAX_ROWS + 1) }
     {
@@ -222,7 +224,7 @@ impl<C: BootCell> World<C> {
         count
     }
 
-    /// Whether a site's view is not near its end, and its log has room for what may come to be asked.
+    /// Whether a site's view is not near its end, and its log has room for what may still be asked.
     fn has_room(&self, site: &Replica<Book, C>, notices: usize) -> bool
         requires { notices ≡ min (unanswered_count self.now) (MAX_ROWS + 1) }
         ensures { result ≡ has_room self.now site.now }
@@ -248,7 +250,7 @@ impl<C: BootCell> World<C> {
         }
     }
 
-    /// Whose turn a step is, of an actor that is there.
+    /// The actor that a step is for, which is there, and its event; else why there is none.
     fn turn(&self, alloc: Global, step: Step) -> Result<Turn, WorldFault>
         ensures is { IfOk result (λ t. turn self.now.post step ≡ Some t) }
         ensures there { IfOk result (λ t. has_actor self.now t ≡ true) }
@@ -273,7 +275,7 @@ impl<C: BootCell> World<C> {
         Ok(turn)
     }
 
-    /// The turn of the actor to whom the envelope of a number comes.
+    /// The turn of the actor that the envelope of a number is addressed to.
     fn arrival(&self, alloc: Global, number: usize) -> Result<Turn, WorldFault>
         ensures is { IfOk result (λ t. turn self.now.post (Step.Deliver number) ≡ Some t) }
         ensures there { IfOk result (λ t. has_actor self.now t ≡ true) }
@@ -299,7 +301,7 @@ impl<C: BootCell> World<C> {
         self.has_actor(&beat(actor))
     }
 
-    /// Whether the actor whose turn it is is there.
+    /// Whether the actor of a turn is there.
     fn has_actor(&self, turn: &Turn) -> bool
         ensures { result ≡ has_actor self.now turn.now }
     {
@@ -310,7 +312,7 @@ impl<C: BootCell> World<C> {
         }
     }
 
-    /// A site takes its turn. There is room on the trail for the step or the fall before the site is asked.
+    /// A site handles its event. Room for the step or the fall is made on the trail before the site is asked.
     fn at_site(
         &mut self,
         alloc: Global,
@@ -342,7 +344,7 @@ impl<C: BootCell> World<C> {
         }
     }
 
-    /// A node takes its turn. There is room on the trail and on the post before the node is asked.
+    /// A node handles its event. Room is made on the trail and on the post before the node is asked.
     fn at_node(&mut self, step: Step, ccy: u16, event: NodeEvent) -> Result<Report, WorldFault>
         requires turn { turn self.old.post step ≡ Some (OfNode ccy event) }
         requires there { ccy < length self.old.nodes }
@@ -362,7 +364,7 @@ impl<C: BootCell> World<C> {
         }
     }
 
-    /// A client takes its turn. There is room on the trail and on the post before the client is asked.
+    /// A client handles its event. Room is made on the trail and on the post before the client is asked.
     fn at_client(
         &mut self,
         alloc: Global,
@@ -409,7 +411,7 @@ fn running_count<C: BootCell>(sites: &[Replica<Book, C>]) -> usize
     count
 }
 
-/// Makes room for one move and for what a node or a client sends at once. `Err` where memory is refused.
+/// Makes room for one move and for all that a node or a client sends at once. `Err` where memory is refused.
 fn make_room(trail: &mut Trail, post: &mut Vec<Envelope<Book>>) -> Result<(), AllocError>
     ensures moves { trail.new.items ≡ trail.old.items }
     ensures envelopes { post.new.items ≡ post.old.items }

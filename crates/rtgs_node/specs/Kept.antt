@@ -1,5 +1,5 @@
--- What a node keeps beside what it shows, and why no sum leaves its type: invariants of the code, which no answer rests
--- on.
+-- What a node keeps beside what it shows, and why no sum exceeds the range of its type: invariants of the code, on
+-- which no answer depends.
 use Rattle.std.specs.Prelude.{◌≡◌, ℕ, ◌+◌, ◌-◌, ◌<◌, ◌≤◌, ◌==◌, true, not, List, length, count_by, slice_index_or}
 use Rattle.std.specs.List.{AllByRecursion, list_any, range_with_len}
 use Rattle.pvp_types.specs.declared.setup.Setup.{Setup}
@@ -26,14 +26,14 @@ shown_of setup ccy pay_ins pay_outs returned closed notices answered = record {
       };
 }
 
--- each payment made one notice, and there are no more than have numbers
+-- each payment made one notice, and there are no more payments than numbers for them
 pub record AreCounted (x : Node) : Type 0 where
   pub notices : length x.notices ≡ length x.pay_ins + (length x.pay_outs + length x.returned)
   pub answered : x.answered ≤ length x.notices
   pub pay_ins : length x.pay_ins ≤ 65535
   pub orders : length x.pay_outs + length x.returned ≤ 65535
 
--- of a member of the setup, and an amount in its range
+-- a payment of a member of the setup, of an amount in its range
 pub record IsPayment (setup : Setup) (member amt : ℕ) : Type 0 where
   pub known : has_member setup member ≡ true
   pub small : is_amount amt ≡ true

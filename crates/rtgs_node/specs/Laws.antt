@@ -1,4 +1,4 @@
--- What is so of a node after any list of events.
+-- What holds of a node after any list of events.
 use Rattle.std.specs.Prelude.{ℕ, List, length, map, fold, sum_by, ℤ, pos, ◌+ℤ◌}
 use Rattle.std.specs.List.{range_with_len}
 use Rattle.pvp_types.specs.declared.setup.Setup.{Setup}

@@ -1,3 +1,4 @@
+//! The events of a node.
 use pvp_book::Book;
 use vr_types::Envelope;
 
@@ -8,8 +9,8 @@ pub enum NodeEvent {
     PaysIn { member: u16, amt: u64 },
     /// A member's account is closed.
     Closes(u16),
-    /// An envelope comes.
+    /// An envelope arrives.
     Takes(Envelope<Book>),
-    /// It is time to say again what may have been lost.
+    /// It is time to send again what may have been lost.
     Beats,
 }

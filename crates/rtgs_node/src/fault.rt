@@ -1,10 +1,11 @@
+//! The faults of a node.
 use std::alloc::AllocError;
 use std::fmt;
 
-/// Why a node refuses: of several the first that its step tests.
+/// Why a node refuses an event; of several reasons, the first that its step tests.
 #[derive(Clone, Copy, Debug, PartialEq, Eq)]
 pub enum NodeFault {
-    /// N1: the account that pays has less than the amount.
+    /// N1: the account that is to pay has less than the amount.
     Short,
     /// N2: the member is not in the setup.
     UnknownMember,
@@ -14,8 +15,7 @@ pub enum NodeFault {
     NoMemory,
     /// N5: there are 65,535 pay-ins, or 65,535 orders that were done or returned.
     Spent,
-    /// N6: the envelope is for another actor, the message not one for a node, or the order in another
-    /// currency.
+    /// N6: the envelope is for another actor, the message is not one for a node, or the order is in another currency.
     NotMine,
     /// N7: the member's account is closed.
     Closed,

@@ -1,5 +1,5 @@
-//! The real-time gross settlement node of one currency: the bank's account there and its members', the payments
-//! between them, and what the node tells the bank of each.
+//! The real-time gross settlement node of one currency: the accounts of the bank and of its members, the payments
+//! between them, and the notices of them that the node sends to the bank.
 #![tactic(auto)]
 
 pub mod event;

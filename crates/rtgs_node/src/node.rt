@@ -1,3 +1,4 @@
+//! The account system of one currency: pay-ins, orders, and the notices of both.
 ghost use Rattle.std.specs.Prelude.{◌≡◌, ℕ, ◌+◌, ◌-◌, ◌^◌, ◌<◌, ◌≤◌, ◌==◌, ◌++◌, ◌∷◌, [], true, false, None, pos, int_lt, nat_lt, length, map, IfOk, IfErr, OnOk, OnErr, nat_eq, ◌||◌, slice_index_or, vec_len, vec_capacity};
 ghost use Rattle.pvp_book.specs.Answer.{has_member};
 ghost use Rattle.indexmap.specs.IndexSet.{contains};
@@ -15,18 +16,18 @@ use vr_types::limits::MAX_ROWS;
 use vr_types::{Envelope, MsgOf};
 
 /// The account system of one currency. It settles each payment singly and finally, and tells the bank of it: each
-/// payment makes a notice, which is the node's request of its number, and only the least notice that is not answered
-/// is out.
+/// payment makes a notice, which is the node's request of that number, and only the lowest notice that is not answered
+/// is sent.
 #[derive(Debug, Drop)]
 pub struct Node {
     setup: Setup,
     ccy: u8,
     pay_ins: Vec<PayIn>,
-    /// The orders done, in the order in which they were.
+    /// The orders that were done, in the order in which that happened.
     pay_outs: Vec<PayOrder>,
     /// The orders that could not be done.
     returned: Vec<PayOrder>,
-    /// The members whose accounts are closed; there is room for the others.
+    /// The members whose accounts are closed; the list has room for all others.
     closed: Vec<u16>,
     notices: Vec<Cmd>,
     answered: u32,
@@ -86,8 +87,8 @@ impl Node {
         })
     }
 
-    /// Handles an event, by the call of its kind: `pay_in`, `close_member`, `take` or `beat`. Answers what is sent. After
-    /// an `Err` the node is as it was.
+    /// Handles an event, by the call for its kind: `pay_in`, `close_member`, `take` or `beat`. Answers what is sent.
+    /// After an `Err` the node is as it was.
     pub fn handle(&mut self, event: NodeEvent) -> Result<Vec<Envelope<Book>>, NodeFault>
         ensures taken { IfOk result (λ sent.
             IsStep self.old self.new (step_of self.old event) sent.items) }
@@ -105,8 +106,8 @@ impl Node {
     }
 
     /// A member pays in: the amount goes from its account to the bank's, the pay-in gets the next number, counted from
-    /// 1, and the bank is told. Answers what is sent. `UnknownMember`, `BadAmount`, `Closed`, `Spent` and `Short` are
-    /// tested in this order; `NoMemory` comes after them. After an `Err` the node is as it was.
+    /// 1, and a notice is made for the bank. Answers what is sent. `UnknownMember`, `BadAmount`, `Closed`, `Spent` and
+    /// `Short` are tested in this order; `NoMemory` comes after them. After an `Err` the node is as it was.
     #[tactic(auto, unfolding(crate::specs::Shown::step_of))]
     pub fn pay_in(&mut self, member: u16, amt: u64) -> Result<Vec<Envelope<Book>>, NodeFault>
         ensures taken { IfOk result (λ sent.
@@ -120,7 +121,7 @@ impl Node {
         Ok(self.credit(member, amt)?)
     }
 
-    /// A member's account is closed: it pays in no more, and what is ordered for it is returned. `UnknownMember` is
+    /// Closes a member's account: the member can pay in no more, and orders for it are returned. `UnknownMember` is
     /// tested first, then `Closed`. It takes no memory. After an `Err` the node is as it was.
     #[tactic(auto, unfolding(crate::specs::Shown::step_of))]
     pub fn close_member(&mut self, member: u16) -> Result<(), NodeFault>
@@ -139,11 +140,11 @@ impl Node {
         Ok(())
     }
 
-    /// An envelope comes. A new order is done, or returned where its member's account is closed; an order of a known
-    /// number does nothing; a REPLY with the number of the notice that is out answers it, and the next goes out; any
-    /// other REPLY does nothing. Answers what is sent.
+    /// Takes an envelope. A new order is done, or returned if its member's account is closed; an order of a known
+    /// number does nothing; a REPLY with the number of the notice that was sent last answers it, and the next one is
+    /// sent; any other REPLY does nothing. Answers what is sent.
     ///
-    /// `NotMine` is tested first; of a new order then `UnknownMember`, `BadAmount`, `Spent`, and where the account is
+    /// `NotMine` is tested first; for a new order then `UnknownMember`, `BadAmount`, `Spent`, and if the account is
     /// open `Short`; `NoMemory` comes after them. After an `Err` the node is as it was.
     #[tactic(auto, unfolding(crate::specs::Shown::step_of))]
     pub fn take(&mut self, envelope: Envelope<Book>) -> Result<Vec<Envelope<Book>>, NodeFault>
@@ -162,7 +163,8 @@ impl Node {
         }
     }
 
-    /// The notice that is out goes to every site again. The node stays as it is, and the only fault is `NoMemory`.
+    /// Sends the notice that waits for its answer to every site again. The node stays as it is, and the only fault is
+    /// `NoMemory`.
     #[tactic(auto, unfolding(crate::specs::Shown::step_of))]
     pub fn beat(&self) -> Result<Vec<Envelope<Book>>, NodeFault>
         ensures taken { IfOk result (λ sent.
@@ -172,7 +174,8 @@ impl Node {
         Ok(self.notice_after(self.answered)?)
     }
 
-    /// What the bank's account holds, in minor units. With the members' accounts it is all that was deposited.
+    /// What the bank's account holds, in minor units. Together with the members' accounts it is all that was
+    /// deposited.
     pub fn account(&self) -> u64
         ensures account { pos result ≡ account self.now.node }
         ensures whole { all_accounts self.now.setup self.now.ccy self.now.node
@@ -197,7 +200,7 @@ impl Node {
         self.pay_ins.as_slice()
     }
 
-    /// The orders that were done, in the order in which they were.
+    /// The orders that were done, in the order in which that happened.
     pub fn pay_outs(&self) -> &[PayOrder]
         ensures same { result.now ≡ self.now.node.pay_outs }
         ensures few { length result.now ≤ 65535 }
@@ -212,7 +215,7 @@ impl Node {
         self.returned.len()
     }
 
-    /// How many of its notices are not answered.
+    /// How many of its notices are not answered yet.
     pub fn unanswered_count(&self) -> usize
         ensures count { result ≡ length self.now.node.notices - self.now.node.answered }
         ensures few { result ≤ 131070 }
@@ -247,7 +250,7 @@ impl Node {
         }
     }
 
-    /// An order comes.
+    /// Takes an order.
     fn on_order(&mut self, order: PayOrder) -> Result<Vec<Envelope<Book>>, NodeFault>
         ensures taken { IfOk result (λ sent.
             IsStep self.old self.new (order_step self.old order) sent.items) }
@@ -271,7 +274,7 @@ impl Node {
         Ok(self.pay_out(order)?)
     }
 
-    /// Why a new order is refused, whatever the accounts hold.
+    /// Why a new order is refused, apart from what the accounts hold.
     fn order_fault(&self, order: PayOrder) -> Option<NodeFault>
         ensures { result ≡ order_fault self.now order }
     {
@@ -286,7 +289,7 @@ impl Node {
         }
     }
 
-    /// The amount goes from the member's account to the bank's. `Err` where memory is refused: the node is then as it
+    /// Moves the amount from the member's account to the bank's. `Err` where memory is refused: the node is then as it
     /// was.
     fn credit(&mut self, member: u16, amt: u64) -> Result<Vec<Envelope<Book>>, AllocError>
         requires { pay_in_fault self.old member amt ≡ None }
@@ -309,8 +312,8 @@ impl Node {
         Ok(sent)
     }
 
-    /// A new order for a member whose account is closed is returned. `Err` where memory is refused: the node is then as
-    /// it was.
+    /// Returns a new order for a member whose account is closed. `Err` where memory is refused: the node is then as it
+    /// was.
     fn give_back(&mut self, order: PayOrder) -> Result<Vec<Envelope<Book>>, AllocError>
         requires fresh { is_known self.old.node order.out ≡ false }
         requires checked { order_fault self.old order ≡ None }
@@ -328,8 +331,8 @@ impl Node {
         Ok(sent)
     }
 
-    /// The amount of a new order goes from the bank's account to the member's. `Err` where memory is refused: the node is then
-    /// as it was.
+    /// Moves the amount of a new order from the bank's account to the member's. `Err` where memory is refused: the
+    /// node is then as it was.
     fn pay_out(&mut self, order: PayOrder) -> Result<Vec<Envelope<Book>>, AllocError>
         requires fresh { is_known self.old.node order.out ≡ false }
         requires checked { order_fault self.old order ≡ None }
@@ -352,7 +355,7 @@ impl Node {
         Ok(sent)
     }
 
-    /// A REPLY of this number comes.
+    /// Takes a REPLY of this number.
     fn on_reply(&mut self, number: u32) -> Result<Vec<Envelope<Book>>, NodeFault>
         ensures taken { IfOk result (λ sent.
             IsStep self.old self.new (reply_step self.old number) sent.items) }
@@ -373,7 +376,7 @@ impl Node {
         self.closed.contains(&member)
     }
 
-    /// What is sent of the notice after the first so many: it goes to every site, where there is one.
+    /// What is sent once `answered` notices are answered: the next notice, to every site, if there is one.
     fn notice_after(&self, answered: u32) -> Result<Vec<Envelope<Book>>, AllocError>
         ensures sent { IfOk result (λ sent. sent.items ≡ sent_after self.now answered) }
         ensures err { OnErr result (nat_lt 0 (length (sent_after self.now answered)) ≡ true) }
@@ -391,7 +394,7 @@ impl Node {
         }
     }
 
-    /// What is sent of a new notice at once.
+    /// What is sent at once of a new notice.
     fn sent_with(&self, cmd: Cmd) -> Result<Vec<Envelope<Book>>, AllocError>
         ensures { IfOk result (λ sent. sent.items ≡ sent_with self.now cmd) }
     {
@@ -431,7 +434,7 @@ fn transfer(from: &mut u64, to: &mut u64, amt: u64)
     *to += amt;
 }
 
-/// Puts an item at the end, where there is room.
+/// Puts an item at the end, where there must be room.
 fn put<T: Drop>(items: &mut Vec<T>, item: T)
     requires { vec_len items.old < vec_capacity items.old }
     ensures items { items.new.items ≡ items.old.items ++ item ∷ [] }
@@ -450,7 +453,7 @@ fn know(known: &mut IndexSet<u32>, out: u32) -> Result<(), AllocError>
     Ok(())
 }
 
-/// What each member's account opens with.
+/// The opening amounts of the members' accounts.
 fn deposits(alloc: Global, members: &[Member], ccy: u8) -> Result<Vec<u64>, AllocError>
     ensures { IfOk result (λ amounts.
         amounts.items ≡ map (λ member. slice_index_or member.deposit ccy 0) members.now) }
@@ -461,7 +464,7 @@ fn deposits(alloc: Global, members: &[Member], ccy: u8) -> Result<Vec<u64>, Allo
         .collect(alloc)
 }
 
-/// What a member's account opens with, 0 where the setup has none.
+/// The opening amount of a member's account; 0 where the setup has none.
 fn deposit_of(member: &Member, ccy: u8) -> u64
     ensures { result ≡ slice_index_or member.now.deposit ccy 0 }
 {

@@ -1,4 +1,4 @@
-//! Requests of a client to the bank.
+//! How a client's request is sent to the sites.
 ghost use Rattle.std.specs.Prelude.{◌≡◌, ◌≤◌, IfOk};
 ghost use Rattle.rtgs_node.specs.Node.{to_sites};
 

@@ -1,4 +1,4 @@
-//! Falls that are told by their step and by what the cell then holds, as a record of a run has them.
+//! Falls that are given by their step and by what the cell then holds, as a record of a run has them.
 ghost use Rattle.std.specs.Prelude.{◌≡◌, ◌≢◌, ◌<◌, true, Some, Ok, length, IfOk};
 ghost use Rattle.pvp_types.specs.declared.setup.Setup.{Setup as AnySetup};
 ghost use Rattle.vr_types.specs.declared.event.EventOf.TheVariants.{Restart};
@@ -24,11 +24,12 @@ impl<C: BootCell> World<C> {
     ghost use Rattle.pvp_world.specs.World.{IsProved};
     ghost use Rattle.pvp_world.specs.Falling.{FallsTo, KeepsReliable};
 
-    /// The site whose turn a step is falls in place of it, and its cell then holds this: the old value, or what the step
-    /// saves. The fall is then on the trail. `NoSuchEnvelope` and `NoSuchActor` are tested first, which a step of a node or
-    /// a client has too; then memory for the trail, then whether the site refuses the step: the world is as it was. Over
-    /// any other value the site is down and its fall with the value that its cell holds is on the trail: that is told as
-    /// `Elsewhere` where that is what the step saves, or else by the site's `NoMemory` or `CellFault`, which it met. Where no
+    /// Takes a fall: the site that the step is for falls in place of it, and its cell then holds `cell`, which is the
+    /// old value or what the step saves. The fall is then on the trail. `NoSuchEnvelope` and `NoSuchActor` are tested
+    /// first, the latter also where the step is a node's or a client's; then memory for the trail, then whether the
+    /// site refuses the step: after these the world is as it was. If its cell comes to hold another value than `cell`,
+    /// the site is down, and the trail has its fall with the value that its cell holds. The fault is then the site's
+    /// `NoMemory` or `CellFault` if it met one, and else `Elsewhere`: then the value is what the step saves. Where no
     /// save fails there is no `CellFault`.
     pub fn fall(&mut self, alloc: Global, step: Step, cell: Boot) -> Result<(), FallFault>
         ensures falls { FallsTo C.held self.old self.new step cell result }
@@ -53,7 +54,7 @@ impl<C: BootCell> World<C> {
         }
     }
 
-    /// A site falls in its turn. There is room on the trail before the site is asked.
+    /// A site falls in its turn. Room is made on the trail before the site is asked.
     fn site_falls(
         &mut self,
         alloc: Global,
@@ -84,9 +85,9 @@ impl<C: BootCell> World<C> {
     }
 }
 
-/// A site goes down in place of an event, where it does not refuse it: over its cell as it is, where that holds this value,
-/// and else as the event saves it. It answers what is told where its cell then holds another value: `Elsewhere` where
-/// that is what the event saves.
+/// A site goes down in place of an event, unless it refuses it: over its cell as it is, if that holds this value, and
+/// else as the event leaves it. Answers the fault for the case that the cell then holds another value: the site's
+/// `NoMemory` or `CellFault` if it met one, and else `Elsewhere`, where the value is what the event saves.
 fn go_down<C: BootCell>(
     alloc: Global,
     site: &mut Replica<Book, C>,
@@ -119,7 +120,7 @@ fn go_down<C: BootCell>(
     Err(fault)
 }
 
-/// A site falls in place of its restart before it saves, where it does not refuse to restart.
+/// A site falls in place of its restart, before it saves, unless it refuses to restart.
 fn stay_down<C: BootCell>(site: &mut Replica<Book, C>) -> Result<FallFault, SiteFault>
     ensures down { (setup : AnySetup) (i : _) →
         GoesDown C.held setup i site.old site.new Restart result }
