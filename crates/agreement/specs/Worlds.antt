@@ -1,4 +1,4 @@
--- A world of sites alone: all sites, and all that they ever sent, under any list of events.
+-- A world that consists of sites alone: all sites, and all that they ever sent, under any list of events.
 use Rattle.std.specs.Prelude.{◌≡◌, ℕ, ◌+◌, ◌*◌, ◌⊎◌, true, false, List, [], ◌∷◌, ◌++◌, length, map, slice_get, slice_set, Contains, Some, ⊤, if◌then◌else◌}
 use Rattle.vr_types.specs.declared.cell.Boot.{Boot}
 use Rattle.vr_types.specs.declared.event.EventOf.{EventOf}

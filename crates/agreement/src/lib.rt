@@ -42,8 +42,9 @@ pub fn rising<C, R, O>()
 {}
 
 /// A site that ever sent a DOVIEWCHANGE runs in no view below it, whether or not it restarted since. For any two
-/// messages that a site collects, the sender of one knew no later boot of the sender of the other than the one that
-/// the other is of; the same holds of the messages by which a step opens a view or regains a state.
+/// messages of one kind that a site collects for a view change or a recovery, the sender of one knew no later boot of
+/// the sender of the other than the one that the other is of; the same holds of the messages by which a step opens a
+/// view or regains a state.
 pub fn binding<C, R, O>()
     ensures bind { (f : ℕ) (list : LegalList C R O f) → VotesBind list.world }
     ensures fresh { (f : ℕ) (list : LegalList C R O f) → CollectedAreFresh list.world }

@@ -125,8 +125,8 @@ AccountsMatch setup bank =
 
 -- NO NODE IS EVER SHORT
 
--- the orders of a book that was ever executed which the node has neither done nor returned are covered by the bank's
--- account
+-- the orders of a book that was ever executed, as far as the node has neither done nor returned them, are covered by
+-- the bank's account
 abbrev pub OrdersAreCovered : Setup → Bank → Bank → Type 0
 OrdersAreCovered setup early late =
     (x : Site Cmd) (c : ℕ) (n : Node) → Contains early.sites x → slice_get late.nodes c ≡ Some n

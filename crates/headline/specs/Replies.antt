@@ -1,4 +1,4 @@
--- What clients were answered, and what logs keep.
+-- The answers to clients, and what logs keep.
 use Rattle.std.specs.Prelude.{◌≡◌, ℕ, ◌<◌, ◌≤◌, ◌⊎◌, take, slice_get, Contains, Some}
 use Rattle.pvp_types.specs.declared.setup.Setup.{Setup}
 use Rattle.pvp_types.specs.declared.command.Cmd.{Cmd}

@@ -1,5 +1,5 @@
--- THE HEADLINE, whole: after any list of deliveries, losses, repeats, reorderings, timers, view changes, crashes and
--- restarts, of any two moments of it.
+-- THE COMPLETE HEADLINE at any two moments of any legal list: of deliveries, losses, repeats, reorderings, timers,
+-- view changes, crashes and restarts.
 use Rattle.std.specs.Prelude.{ℕ}
 use Rattle.pvp_types.specs.declared.setup.Setup.{Setup}
 use Rattle.headline.specs.Legal.{LegalList, Continued}

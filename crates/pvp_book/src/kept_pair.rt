@@ -100,7 +100,7 @@ impl KeptPair {
     }
 }
 
-/// The reference that a command names: the only pair that it may change is the one of this reference.
+/// The reference that a command names, if any. Noting the command can only change the pair of this reference.
 pub fn named_by(entry: &Entry) -> Option<u32>
     ensures { result ≡ named_by entry.now.cmd }
 {

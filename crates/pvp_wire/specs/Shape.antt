@@ -44,7 +44,7 @@ number_at n bytes = if nat_lt (length bytes) n then Err Length else Ok (big_numb
 abbrev pub listed_at : ℕ → (ℕ → Bool) → List ℕ → Reads ℕ
 listed_at width is_listed bytes = number_at width bytes >>= λ n. if is_listed n.0 then Ok n else Err Field
 
--- a number of so many bytes, and one that has to be of a list
+-- a number of a given count of bytes, and one that must pass a test
 abbrev pub wide : ℕ → Shape ℕ
 wide n = record { spell = number n; Fits = Fits n; read = λ refused. number_at n }
 

@@ -13,7 +13,7 @@ use std::marker::Model;
 #[derive(Drop)]
 pub struct Feeder {
     alloc: Global,
-    /// What came after the last whole frame.
+    /// The bytes that came after the last complete frame.
     held: Vec<u8>,
     /// What is wrong with it, where nothing that follows can make it a frame.
     fault: Option<WireFault>,

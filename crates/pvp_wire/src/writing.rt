@@ -35,7 +35,7 @@ type Page = ArrayVec<u8, 1984>;
 
 /// Writes the one spelling of a stamped envelope, which must have one: see `wireable`. It takes no memory.
 ///
-/// An `Err` is the writer's; how much was written by then is not known. Rows are written a page at a time.
+/// An `Err` is the writer's; how much was written by then is not specified. Rows are written a page at a time.
 pub fn encode<W: Write>(stamped: &Stamped, writer: &mut W) -> io::Result<()>
     requires { spell.is_wireable stamped.now ≡ true }
     ensures written { OnOk result (Appends (W.contents writer.old) (W.contents writer.new)

@@ -55,14 +55,14 @@ pub record HasRefused {B : Type 0} (setup : Setup) (i : ℕ) (x : Site Cmd) (eve
   pub same : new ≡ old
   pub refused : refusal {R = Answer} {O = PaymentOrder} (faults setup) i x event ≡ Some fault
 
--- so of each site of a bank that the replica shows
+-- this holds for each site of a bank that the replica shows
 abbrev pub GoesDown : {A B : Type 0} → (B → Boot) → Setup → ℕ → ShownSite Cmd Setup B → ShownSite Cmd Setup B
     → EventOf Cmd Answer PaymentOrder → Result A SiteFault → Type 0
 GoesDown held setup i old new event result =
     (x : Site Cmd) (choose : Choice Cmd) → IsRight (faults setup) choose → IsSite held setup i old x
     → MatchResult result (λ _. IsDown held setup choose i x event new) (HasRefused setup i x event old new)
 
--- its cell then holds what the event saves: so of each site of a bank that the replica shows
+-- its cell then holds what the event saves: for each site of a bank that the replica shows
 abbrev pub HoldsSaved : {B : Type 0} → (B → Boot) → Setup → ℕ → ShownSite Cmd Setup B → ShownSite Cmd Setup B
     → EventOf Cmd Answer PaymentOrder → Type 0
 HoldsSaved held setup i old new event =
@@ -78,7 +78,7 @@ pub record IsUnserved {B : Type 0} (held : B → Boot) (setup : Setup) (choose :
       → (new ≡ old) × (refusal {R = Answer} {O = PaymentOrder} (faults setup) i x event ≡ Some fault)
   pub fell : is_fall fault ≡ true → HasFallen held setup choose i x event new
 
--- so of each site of a bank that the replica shows
+-- this holds for each site of a bank that the replica shows
 abbrev pub Serves : {B : Type 0} → (B → Boot) → Setup → ℕ → ShownSite Cmd Setup B → ShownSite Cmd Setup B
     → EventOf Cmd Answer PaymentOrder → List Envelope → List Envelope → Result Report SiteFault → Type 0
 Serves held setup i old new event post posted result =

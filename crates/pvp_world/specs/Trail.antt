@@ -17,7 +17,7 @@ abbrev pub move_of : List Move → TrailEntry → Move
 move_of others (Delivery number) = Takes (Deliver number)
 move_of others (Other place) = slice_index_or others place (Takes (Deliver 0))
 
--- it stands for one that is there
+-- it stands for a move that is there
 abbrev pub IsThere : List Move → TrailEntry → Type 0
 IsThere others (Delivery number) = Unit {0}
 IsThere others (Other place) = place < length others

@@ -39,7 +39,7 @@ world_of setup opening sites nodes clients post trail =
       trail = trail;
     }
 
--- as many of these as of those, and each stands in this relation to the one in its place
+-- both lists have the same length, and each item stands in this relation to the one in its place
 pub record AreEach {A B : Type 0} (Is : ℕ → A → B → Type 0) (xs : List A) (ys : List B) : Type 0 where
   pub count : length xs ≡ length ys
   pub each : (i : ℕ) (x : A) (y : B) → slice_get xs i ≡ Some x → slice_get ys i ≡ Some y → Is i x y

@@ -34,7 +34,7 @@ pub record Node : Type 0 where
   pub pay_outs : List PaymentOrder  -- those done
   pub returned : List PaymentOrder  -- those that could not be done
   pub closed : List ℕ  -- the members whose accounts are closed
-  pub notices : List Cmd  -- what the bank is told: notice n is the node's request number n
+  pub notices : List Cmd  -- the notices to the bank: notice n is the node's request number n
   pub answered : ℕ  -- how many notices are answered
 
 abbrev pub opening_node : Node

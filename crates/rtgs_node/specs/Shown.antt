@@ -61,7 +61,7 @@ paid_out shown order =
 abbrev pub sent_with : ShownNode → Cmd → List Envelope
 sent_with shown cmd = (notes (faults shown.setup) shown.ccy shown.node cmd).sent
 
--- what is sent where so many notices are answered
+-- what is sent where this number of notices is answered
 abbrev pub sent_after : ShownNode → ℕ → List Envelope
 sent_after shown answered = notice_out (faults shown.setup) shown.ccy (record shown.node { answered = answered })
 

@@ -141,8 +141,8 @@ impl Node {
     }
 
     /// Takes an envelope. A new order is done, or returned if its member's account is closed; an order of a known
-    /// number does nothing; a REPLY with the number of the notice that was sent last answers it, and the next one is
-    /// sent; any other REPLY does nothing. Answers what is sent.
+    /// number does nothing; a REPLY with the number of the lowest notice that is not answered answers it, and the next
+    /// one is sent; any other REPLY does nothing. Answers what is sent.
     ///
     /// `NotMine` is tested first; for a new order then `UnknownMember`, `BadAmount`, `Spent`, and if the account is
     /// open `Short`; `NoMemory` comes after them. After an `Err` the node is as it was.
@@ -163,8 +163,8 @@ impl Node {
         }
     }
 
-    /// Sends the notice that waits for its answer to every site again. The node stays as it is, and the only fault is
-    /// `NoMemory`.
+    /// Sends the lowest notice that is not answered, if there is one, to every site again. The node stays as it is,
+    /// and the only fault is `NoMemory`.
     #[tactic(auto, unfolding(crate::specs::Shown::step_of))]
     pub fn beat(&self) -> Result<Vec<Envelope<Book>>, NodeFault>
         ensures taken { IfOk result (λ sent.

@@ -7,9 +7,8 @@ use pvp_types::Cmd;
 use std::alloc::{AllocError, Global};
 use vr_types::{Envelope, EnvelopeOf, FIRST_SITE, MsgOf, RequestOf};
 
-/// A client's REQUEST of this number to each of 2f+1 sites, in ascending order (section 4 of 'Viewstamped
-/// Replication Revisited', MIT-CSAIL-TR-2012-021, sends it to the primary alone at first). `Err` where memory is
-/// refused.
+/// A client's REQUEST of this number to each of 2f+1 sites, in ascending order (section 4 of 'Viewstamped Replication
+/// Revisited', MIT-CSAIL-TR-2012-021, sends it only to the primary at first). `Err` where memory is refused.
 pub fn to_sites(
     alloc: Global,
     f: u16,

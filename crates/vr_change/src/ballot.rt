@@ -1,5 +1,5 @@
 //! The messages that a change of view collects, and what they decide. A message is left if it is not outdated once the
-//! site has learnt what it was told; only messages that are left decide.
+//! site has learnt what it was told; only messages that are left count.
 ghost use Rattle.std.specs.Prelude.{◌≡◌, ◌<◌, ◌==◌, ◌&&◌, ◌||◌, ◌++◌, ◌∷◌, [], not, nat_lt, nat_le, length, map, max, fold, count_by, slice_get, Some, None, IfSome, MatchOption};
 ghost use Rattle.vr_types.specs.Choice.{IsPick};
 ghost use Rattle.vr_types.specs.Group.{sites, others};
@@ -147,7 +147,7 @@ fn takes_part<M: Machine>(
     site != config.me && (has_start_left(running, told, site) || from == site)
 }
 
-/// The index of the vote that goes before all others that are left, where any is.
+/// The index of the vote that goes before all others that are left, if any is left.
 pub fn best<M: Machine>(running: &Running<M>, told: &Known) -> Option<usize>
     ensures { let votes = map vote_of running.now.votes.items in
         let left = votes_left running.now.known told.now votes in

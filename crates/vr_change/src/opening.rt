@@ -1,5 +1,5 @@
-//! The opening of a view, with what the message that came tells of boot numbers: the primary takes the log that goes
-//! before all others, sends it to all others, and answers the clients.
+//! The opening of a view: the site learns the boot numbers in the message that came, takes the log that goes before
+//! all others, sends it to all others, and answers the clients.
 ghost use Rattle.std.specs.Prelude.{◌≡◌, ◌≢◌, ◌<◌, ◌≤◌, ◌*◌, ◌++◌, ◌∷◌, [], false, IfOk, OnOk, List, length, map, slice_get, Some};
 ghost use Rattle.vr_types.specs.declared.cell.Boot.{Boot};
 ghost use Rattle.vr_types.specs.Change.{opened_with, own_vote};

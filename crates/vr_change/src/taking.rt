@@ -47,9 +47,9 @@ pub fn is_normal_in<M: Machine>(running: &Running<M>, view: u32) -> bool
     runs_normally(running.status) && view == running.view
 }
 
-/// Puts these rows after the first `base` of the log, and is normal in this view: what is committed is executed, and
-/// the log is acknowledged if some of it is not executed yet. Rows that do not begin with those that the site has
-/// executed are dropped.
+/// The site puts these rows after the first `base` of its log, and is normal in this view: what is committed is
+/// executed, and the log is acknowledged if some of it is not executed yet. Rows that do not begin with those that the
+/// site has executed are dropped.
 pub fn take_log<M: Machine>(
     alloc: Global,
     config: Config,

@@ -89,7 +89,7 @@ pub fn do_view_change<M: Machine>(
     take_vote(alloc, config, running, vote, sent)
 }
 
-/// Starts the change to the view where that is later than the site's, and then learns what was told. Answers the
+/// If the view is later than the site's, the site learns what was told and starts the change to it. Answers the
 /// messages that go to all others.
 fn start_later<M: Machine>(
     alloc: Global,

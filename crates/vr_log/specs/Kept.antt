@@ -1,4 +1,4 @@
--- How a running site's log, clients' table and machine fit together.
+-- How the log and the clients' table and the machine of a running site fit together.
 use Rattle.std.specs.Prelude.{◌≡◌, ℕ, ◌-◌, ◌≤◌, List, length, take, slice_get, Option, option_map}
 use Rattle.vr_types.specs.declared.machine.Machine.{Ghosts}
 use Rattle.vr_types.specs.declared.message.EnvelopeOf.{EnvelopeOf}

@@ -121,8 +121,8 @@ fn append_next<M: Machine>(kept: &mut Kept<M>, place: u16, row: Row<M>) -> Resul
     Ok(())
 }
 
-/// Whether a message of another view asks for a state transfer: the view is later than the site's, or the site is in
-/// change.
+/// Whether the site must ask for the state before it can take a message of view `other`: that view is later than its
+/// own, or it is in change.
 fn lags(status: Status, view: u32, other: u32) -> bool
     ensures { result ≡ (nat_lt view other || is_change status) }
 {

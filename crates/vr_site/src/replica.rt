@@ -120,7 +120,7 @@ impl<M: Machine, C: BootCell> Replica<M, C> {
             IsRight self.old.f choose → SumUp self.old.volatile.acked acks →
             (site_step choose self.old.f self.old.me (site_shown C.held self.old acks) event).ending
             ≡ Dropped why → IsOk result }
-        // A restart alone saves.
+        // Only a restart saves.
         ensures only_restart { event ≢ AnyEvent.Restart → self.new.cell ≡ self.old.cell }
         // The nonce of a RECOVERY was saved before.
         ensures saved_first { IfOk result

@@ -62,7 +62,7 @@ pub(crate) fn serve<M: Machine>(
         MsgOf::NewState(state) => vr_change::new_state(alloc, config, running, site, state),
         MsgOf::Recovery(recovery) => vr_recover::recovery(alloc, config, running, site, recovery),
         MsgOf::RecoveryResponse(_) => Ok(dropped(alloc, Why::Status)),
-        // These two are for clients alone: no actor may send a site one.
+        // These two only go to clients: no actor may send a site one.
         MsgOf::Reply(_) => Ok(silent(alloc)),
         MsgOf::PayOrder(_) => Ok(silent(alloc)),
     }

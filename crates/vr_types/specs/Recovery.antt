@@ -1,5 +1,5 @@
 -- Recovery, by section 4.3 of 'Viewstamped Replication Revisited' (MIT-CSAIL-TR-2012-021), whose steps are named. This
--- project's own: the boot cell holds the count of restarts alone, which is the nonce; each site keeps what it has heard
+-- project's own: the boot cell holds only the count of restarts, which is the nonce; each site keeps what it has heard
 -- of the counts of the others.
 use Rattle.std.specs.Prelude.{ℕ, ◌==◌, ◌&&◌, Bool, not, nat_lt, nat_le, List, [], ◌∷◌, ◌++◌, filter, slice_set, Option, Some, None, if◌then◌else◌}
 use Rattle.std.specs.List.{list_any}

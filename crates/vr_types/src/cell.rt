@@ -48,7 +48,7 @@ pub trait BootCell: Drop {
     /// How many saves have failed.
     ghost faults: { Self → ℕ };
 
-    /// Holds of a cell no save of which fails.
+    /// Holds of a cell whose saves never fail.
     ghost is_reliable: { Self → Type 0 };
 
     /// Holds of a cell, a value, and what one save of the value, failed or not, leaves of the cell.
@@ -72,7 +72,7 @@ pub trait BootCell: Drop {
         ensures { result ≡ faults self.now };
 }
 
-/// A cell in memory, of which at most one save fails.
+/// A cell in memory, at most one of whose saves fails.
 #[derive(Drop)]
 pub struct MemCell {
     boot: Boot,
@@ -84,7 +84,7 @@ pub struct MemCell {
 }
 
 impl MemCell {
-    /// A cell no save of which fails.
+    /// A cell whose saves never fail.
     pub fn new() -> Self
         ensures held { held_by result ≡ new_cell }
         ensures reliable { IsReliable result }
@@ -93,7 +93,7 @@ impl MemCell {
         MemCell::failing(0, false)
     }
 
-    /// A cell that already holds this value, and no save of which fails.
+    /// A cell that already holds this value, and whose saves never fail.
     pub fn of(boot: Boot) -> Self
         ensures held { held_by result ≡ boot }
         ensures reliable { IsReliable result }

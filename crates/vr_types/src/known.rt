@@ -11,7 +11,7 @@ use std::marker::Model;
 const PLACES: usize = MOST_SITES as usize;
 
 /// For each site, in order, the greatest boot number that is known; 0 where none is. In clauses it is the list of
-/// these. The value lies in place, so none of its calls takes memory.
+/// these. The numbers are stored in the value itself, so none of its calls takes memory.
 #[derive(Clone, Copy)]
 pub struct Known {
     boots: [u32; PLACES],
@@ -43,7 +43,7 @@ impl Model for Known {
 impl Known {
     ghost use Rattle.vr_types.specs.Step.{is_outdated};
 
-    /// The list of no sites at all.
+    /// The list for no site.
     pub fn new() -> Self
         ensures { result ≡ [] }
     {
@@ -53,7 +53,7 @@ impl Known {
         }
     }
 
-    /// The list of 2f+1 sites, of none of which a boot number is known.
+    /// The list for 2f+1 sites, with no boot number known.
     pub fn of_none(f: u16) -> Self
         requires { f ≤ 3 }
         ensures { result ≡ no_boots f }
@@ -110,7 +110,7 @@ impl Known {
         self.boots[usize::from(site)] = boot;
     }
 
-    /// Takes each boot number of a sender that is greater than the one known here.
+    /// Takes each of the sender's boot numbers that is greater than the one known here.
     pub fn learn(&mut self, told: &Known)
         requires { length told.now ≤ length self.old }
         ensures { self.new ≡ greater self.old told.now }
