@@ -1,4 +1,5 @@
 //! The pay-ins of members.
+
 /// A payment of a member to the bank, out of its own account at the node.
 #[derive(Clone, Copy, Debug, PartialEq, Eq)]
 pub struct PayIn {
