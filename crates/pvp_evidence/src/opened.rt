@@ -54,7 +54,7 @@ fn open_actor(
     match opening {
         Some(boot) => {
             let cell = MemCell::of(boot);
-            Ok(Party::Site(SiteParty::new(alloc, setup, actor - FIRST_SITE, cell)?))
+            Ok(Party::Site(SiteParty::<MemCell>::new(alloc, setup, actor - FIRST_SITE, cell)?))
         }
         None if actor >= FIRST_NODE => {
             let ccy = (actor - FIRST_NODE) as u8;

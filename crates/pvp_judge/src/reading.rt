@@ -31,15 +31,15 @@ fn reads_world(world: &World<MemCell>, one: &Closed<Party>) -> bool
     match &one.end {
         Party::Site(end) => match world.site(one.number.saturating_sub(FIRST_SITE)) {
             None => false,
-            Some(site) => are_alike_sites(end.replica(), site),
+            Some(site) => are_alike_sites(end.actor(), site),
         },
         Party::Node(end) => match world.node(currency_of_node(one.number)) {
             None => false,
-            Some(node) => are_alike_nodes(end.node(), node),
+            Some(node) => are_alike_nodes(end.actor(), node),
         },
         Party::Client(end) => match world.client(one.number) {
             None => false,
-            Some(client) => are_alike_clients(end.client(), client),
+            Some(client) => are_alike_clients(end.actor(), client),
         },
     }
 }

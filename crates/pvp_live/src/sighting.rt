@@ -25,7 +25,7 @@ pub fn sighting_of<C: BootCell>(party: &PartyOf<C>) -> Option<Sighting>
     let PartyOf::Site(site) = party else {
         return None;
     };
-    let replica = site.replica();
+    let replica = site.actor();
     Some(Sighting {
         actor: site.number(),
         status: replica.status(),

@@ -188,14 +188,11 @@ impl<A: Journaled, L: Log> JournalRoom<A, L> {
             return Ok((room, Posted::NoMemory));
         };
         let stamp = input.stamp;
-        let Ok(copies) = room.actor.take(alloc, input.event) else {
-            return Ok((room, Posted::NoMemory));
-        };
         let entry = Recorded {
             event,
             stamp,
             clock,
-            outcome: copies.answered,
+            outcome: room.actor.take(alloc, input.event),
         };
         room.sum = A::write(alloc, room.number, room.sum, &entry, &mut room.batch)?;
         room.clock = clock;

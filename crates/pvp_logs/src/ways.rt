@@ -159,7 +159,7 @@ fn is_up(actor: &Party) -> bool
     ensures { result ≡ is_up actor.now }
 {
     match actor {
-        PartyOf::Site(site) => match site.replica().status() {
+        PartyOf::Site(site) => match site.actor().status() {
             Status::Down => false,
             _ => true,
         },

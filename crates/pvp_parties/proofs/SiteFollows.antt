@@ -24,7 +24,7 @@ use Rattle.pvp_rooms.specs.declared.site.CameOf.TheVariants.{Did, Refused, Fell}
 use Rattle.pvp_rooms.specs.Sites.{SiteState, step_in, Comes, after, Shows}
 use Rattle.pvp_rooms.specs.Histories.{Takes}
 use Rattle.pvp_audit.specs.Runs.{Follows}
-use Rattle.pvp_rooms.proofs.SiteSteps.{refusal_of, still, ended_allowed, did, fell_after}
+use Rattle.pvp_rooms.proofs.SiteSteps.{refusal_of, still, ended_allowed, did, fell_over}
 
 some : {X : Type 0} (a b : X) → Some a ≡ Some b → a ≡ b
 some a b e = cc
@@ -113,7 +113,7 @@ module _ {H C R O S B : Type 0} (m : Ghosts H C R O S) (c : Cell B) (old : Shown
         → (why ≡ NoMemory) ⊎ (why ≡ CellFault)
         → Comes m x event (Fell why cell) × Shows m c now (after x event (Fell why cell))
     fell_so now why cell fallen held of =
-        let f = fell_after m c old new x event shows place out handles now cell fallen held in
+        let f = fell_over m c old new now event fallen cell out.sent.items out.dropped x held (did m c old new x event shows place out handles) in
         ((f.0.0, of), f.1)
 
     pub fell_only : (now : ShownSite C S B) (why : SiteFault) (cell : Boot) → now ≡ record new { volatile = lost }

@@ -1,12 +1,20 @@
--- Events of another kind of actor: nothing is done.
+-- Events of the actor's own kind, which takes its step, and of another kind, at which nothing is done.
 use Rattle.std.proofs.Common.{◌≡◌, refl, sym, subst}
 use Rattle.vr_types.specs.declared.cell.BootCell.{Ghosts as Cell}
+use Rattle.rtgs_node.specs.declared.event.NodeEvent.{NodeEvent}
+use Rattle.rtgs_node.specs.Shown.{ShownNode}
+use Rattle.headline.specs.declared.step.ClientEvent.{ClientEvent}
+use Rattle.pvp_world.specs.Client.{ShownClient}
+use Rattle.pvp_rooms.specs.Histories.{Takes}
+use Rattle.pvp_rooms.specs.Nodes as nodes
+use Rattle.pvp_rooms.specs.Clients as clients
 use Rattle.pvp_parties.specs.declared.party.PartyOf.{PartyOf}
 use Rattle.pvp_parties.specs.declared.party.PartyOf.TheVariants.{Site, Node, Client}
 use Rattle.pvp_parties.specs.declared.party.PartyEvent.{PartyEvent}
 use Rattle.pvp_parties.specs.declared.party.PartyEvent.TheVariants.{OfSite, OfNode, OfClient}
 use Rattle.pvp_parties.specs.declared.party.PartyOutcome.{PartyOutcome}
-use Rattle.pvp_parties.specs.declared.party.PartyOutcome.TheVariants.{Stray}
+use Rattle.pvp_parties.specs.declared.party.PartyOutcome.TheVariants.{OfNode as NodeTold, OfClient as ClientTold, Stray}
+use Rattle.pvp_parties.specs.Made.{Made}
 use Rattle.pvp_parties.specs.Parties.{PartyState, AtSite, AtNode, AtClient, Shows, Comes, after}
 
 module _ {B : Type 0} (c : Cell B) where
@@ -54,3 +62,32 @@ module _ {B : Type 0} (c : Cell B) where
       → (x : PartyState) → Shows c v x → Comes x event told × Shows c (Client p) (after x event told)
   stray_at_client v p event told is other stray x shows =
       subst (λ o. Comes x event o × Shows c (Client p) (after x event o)) (sym stray) (at_client p event other x (subst (λ w. Shows c w x) is shows))
+
+  node_at : (p q : Made ShownNode) (e : NodeEvent) (told : _) → ((y : ShownNode) → y ≡ p.now → Takes nodes.Comes nodes.after y e told (λ z. z ≡ q.now))
+      → (x : PartyState) → Shows c (Node p) x → Comes x (OfNode e) (NodeTold told) × Shows c (Node q) (after x (OfNode e) (NodeTold told))
+  node_at p q e told step (AtSite y) shows = absurd shows
+  node_at p q e told step (AtNode y) shows = step y shows
+  node_at p q e told step (AtClient y) shows = absurd shows
+
+  pub step_at_node : (v : PartyOf B) (p q : Made ShownNode) (event : PartyEvent) (e : NodeEvent) (out : PartyOutcome) (told : _) → v ≡ Node p → event ≡ OfNode e
+      → out ≡ NodeTold told → ((y : ShownNode) → y ≡ p.now → Takes nodes.Comes nodes.after y e told (λ z. z ≡ q.now))
+      → (x : PartyState) → Shows c v x → Comes x event out × Shows c (Node q) (after x event out)
+  step_at_node v p q event e out told is of came step x shows =
+      subst (λ o. Comes x event o × Shows c (Node q) (after x event o)) (sym came)
+      (subst (λ i. Comes x i (NodeTold told) × Shows c (Node q) (after x i (NodeTold told))) (sym of)
+      (node_at p q e told step x (subst (λ w. Shows c w x) is shows)))
+
+  client_at : (p q : Made ShownClient) (e : ClientEvent) (told : _)
+      → ((y : ShownClient) → y ≡ p.now → Takes clients.Comes clients.after y e told (λ z. z ≡ q.now))
+      → (x : PartyState) → Shows c (Client p) x → Comes x (OfClient e) (ClientTold told) × Shows c (Client q) (after x (OfClient e) (ClientTold told))
+  client_at p q e told step (AtSite y) shows = absurd shows
+  client_at p q e told step (AtNode y) shows = absurd shows
+  client_at p q e told step (AtClient y) shows = step y shows
+
+  pub step_at_client : (v : PartyOf B) (p q : Made ShownClient) (event : PartyEvent) (e : ClientEvent) (out : PartyOutcome) (told : _) → v ≡ Client p
+      → event ≡ OfClient e → out ≡ ClientTold told → ((y : ShownClient) → y ≡ p.now → Takes clients.Comes clients.after y e told (λ z. z ≡ q.now))
+      → (x : PartyState) → Shows c v x → Comes x event out × Shows c (Client q) (after x event out)
+  step_at_client v p q event e out told is of came step x shows =
+      subst (λ o. Comes x event o × Shows c (Client q) (after x event o)) (sym came)
+      (subst (λ i. Comes x i (ClientTold told) × Shows c (Client q) (after x i (ClientTold told))) (sym of)
+      (client_at p q e told step x (subst (λ w. Shows c w x) is shows)))

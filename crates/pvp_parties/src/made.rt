@@ -1,4 +1,4 @@
-//! An actor of each kind, with what it was made from.
+//! An actor of the bank, with what it was made from.
 ghost use Rattle.std.specs.Prelude.{◌≡◌, ◌*◌, ◌<◌, ◌≤◌, length, IfOk, OnErr};
 ghost use Rattle.pvp_audit.specs.Runs.{Follows};
 ghost use Rattle.pvp_types.specs.Setup.{IsValid, faults};
@@ -14,7 +14,7 @@ ghost use Rattle.pvp_parties.specs.Made.{memory, made_site, made_node, made_clie
 
 use crate::follow::{follow_client, follow_node, follow_site};
 use headline::{ClientEvent, ClientFault};
-use pvp_book::{Book, node_of};
+use pvp_book::Book;
 use pvp_rooms::{Actor, Came, Copies, Told};
 use pvp_types::Setup;
 use pvp_world::Client;
@@ -22,30 +22,83 @@ use rtgs_node::{Node, NodeEvent, NodeFault};
 use std::alloc::{AllocError, Global};
 use std::marker::Model;
 use vr_site::Replica;
-use vr_types::{Boot, BootCell, Config, Event, FIRST_SITE, MemCell};
+use vr_types::{Boot, BootCell, Config, Event, FIRST_NODE, FIRST_SITE, MemCell};
 
-/// A site of the bank, over a cell of this kind.
+/// An actor, with its bank's setup and its place among the actors of its kind.
 #[derive(Drop)]
-pub struct SiteParty<C: BootCell> {
+pub struct Placed<A: Actor> {
     setup: Setup,
-    me: u16,
-    site: Replica<Book, C>,
+    place: u16,
+    actor: A,
 }
 
-impl<C: BootCell> Model for SiteParty<C> {
-    ghost use Rattle.pvp_types.specs.Setup.{IsValid, faults};
-    ghost use Rattle.std.specs.Prelude.{◌*◌, ◌≤◌};
-    ghost use Rattle.pvp_parties.specs.Alike.{SiteOf};
+impl<A: Actor> Model for Placed<A> {
+    ghost use Rattle.pvp_types.specs.Setup.{IsValid};
+    ghost use Rattle.std.specs.Prelude.{◌≤◌};
     ghost use Rattle.pvp_parties.specs.Made.{Made};
 
-    ghost Value = { Made (SiteOf C) };
+    ghost Value = { Made A };
 
-    ghost view = { λ a. record { setup = a.setup; place = a.me; now = a.site } };
+    ghost view = { λ a. record { setup = a.setup; place = a.place; now = a.actor } };
 
-    ghost invariant = { λ a. IsValid a.setup × (a.me ≤ 2 * faults a.setup) };
+    ghost invariant = { λ a. IsValid a.setup × (a.place ≤ 100) };
 }
 
-impl<C: BootCell> SiteParty<C> {
+/// A site of the bank, over a cell of this kind.
+pub type SiteParty<C> = Placed<Replica<Book, C>>;
+
+/// A node of the bank.
+pub type NodeParty = Placed<Node>;
+
+/// A client of the bank.
+pub type ClientParty = Placed<Client>;
+
+impl<A: Actor> Placed<A> {
+    /// Takes an event, and answers how it came out.
+    pub fn take(&mut self, alloc: Global, event: A::Event) -> A::Outcome
+        ensures step { (x : A.State) → A.shows self.old.now x →
+            Takes A.comes A.after x event result (A.shows self.new.now) }
+        ensures kept { self.new ≡ record self.old { now = self.new.now } }
+        ensures told { A.tells self.old.now self.new.now event result }
+    {
+        self.actor.take(alloc, event)
+    }
+
+    /// Takes an event, and answers three times how it came out. Where memory for the copies is refused, a site falls, and
+    /// any other is as it was.
+    pub fn take_copied(
+        &mut self,
+        alloc: Global,
+        event: A::Event,
+    ) -> Result<Copies<A::Outcome>, AllocError>
+        ensures step { IfOk result (λ copies. (x : A.State) → A.shows self.old.now x →
+            Takes A.comes A.after x event copies.answered (A.shows self.new.now)) }
+        ensures kept { self.new ≡ record self.old { now = self.new.now } }
+        ensures recorded { IfOk result (λ copies. copies.recorded ≡ copies.answered) }
+        ensures receipted { IfOk result (λ copies. copies.receipted ≡ copies.answered) }
+        ensures err { OnErr result (self.new ≡ self.old) }
+        ensures told { IfOk result (λ copies.
+            A.tells self.old.now self.new.now event copies.answered) }
+    {
+        self.actor.take_copied(alloc, event)
+    }
+
+    /// What its bank was set up with.
+    pub fn setup(&self) -> &Setup
+        ensures { result.now ≡ self.now.setup }
+    {
+        &self.setup
+    }
+
+    /// The actor itself.
+    pub fn actor(&self) -> &A
+        ensures { result.now ≡ self.now.now }
+    {
+        &self.actor
+    }
+}
+
+impl<C: BootCell> Placed<Replica<Book, C>> {
     /// The site of this place in its group, over a cell. `Err` where memory is refused.
     pub fn new(alloc: Global, setup: &Setup, me: u16, cell: C) -> Result<Self, AllocError>
         requires valid { IsValid setup.now }
@@ -58,10 +111,10 @@ impl<C: BootCell> SiteParty<C> {
     {
         let f = setup.faults();
         let config = Config { f, me };
-        Ok(SiteParty {
+        Ok(Placed {
             setup: setup.copy()?,
-            me,
-            site: Replica::new(alloc, config, setup.copy()?, cell)?,
+            place: me,
+            actor: Replica::new(alloc, config, setup.copy()?, cell)?,
         })
     }
 
@@ -69,43 +122,14 @@ impl<C: BootCell> SiteParty<C> {
     pub fn number(&self) -> u16
         ensures { result ≡ actor_of self.now.place }
     {
-        let f = self.setup.faults();
-        prove!(self.me <= 2 * f);
-        FIRST_SITE + self.me
-    }
-
-    /// Takes an event. Where memory for the copies is refused, it falls.
-    pub fn take(
-        &mut self,
-        alloc: Global,
-        event: Event<Book>,
-    ) -> Result<Copies<Came<Book>>, AllocError>
-        ensures step { IfOk result (λ copies. (x : sites.SiteState Ledger AnyCmd) →
-            sites.Shows book C.BootCell self.old.now x →
-            Takes (sites.Comes book) sites.after x event copies.answered
-            (sites.Shows book C.BootCell self.new.now)) }
-        ensures kept { self.new ≡ record self.old { now = self.new.now } }
-        ensures recorded { IfOk result (λ copies. copies.recorded ≡ copies.answered) }
-        ensures receipted { IfOk result (λ copies. copies.receipted ≡ copies.answered) }
-        ensures err { OnErr result (self.new ≡ self.old) }
-        ensures told { IfOk result (λ copies.
-            sites.Tells book C.BootCell self.old.now self.new.now event copies.answered) }
-    {
-        Actor::take(&mut self.site, alloc, event)
-    }
-
-    /// What its bank was set up with.
-    pub fn setup(&self) -> &Setup
-        ensures { result.now ≡ self.now.setup }
-    {
-        &self.setup
+        FIRST_SITE + self.place
     }
 
     /// What its cell holds.
     pub fn held_boot(&self) -> Boot
         ensures { result ≡ C.held self.now.now.cell }
     {
-        self.site.boot()
+        self.actor.boot()
     }
 
     /// The same site over another cell, which holds what its own does.
@@ -113,22 +137,15 @@ impl<C: BootCell> SiteParty<C> {
         requires { D.held cell ≡ C.held self.now.cell }
         ensures { result ≡ made_over self cell }
     {
-        SiteParty {
+        Placed {
             setup: self.setup,
-            me: self.me,
-            site: self.site.over(cell),
+            place: self.place,
+            actor: self.actor.over(cell),
         }
-    }
-
-    /// The site itself.
-    pub fn replica(&self) -> &Replica<Book, C>
-        ensures { result.now ≡ self.now.now }
-    {
-        &self.site
     }
 }
 
-impl SiteParty<MemCell> {
+impl Placed<Replica<Book, MemCell>> {
     /// Takes an event that came out so, and says whether it can. After `Err` or a no it may only be dropped.
     pub fn follow(
         &mut self,
@@ -142,32 +159,11 @@ impl SiteParty<MemCell> {
             (sites.Shows book memory self.new.now) can) }
         ensures kept { self.new ≡ record self.old { now = self.new.now } }
     {
-        follow_site(&mut self.site, alloc, event, came)
+        follow_site(&mut self.actor, alloc, event, came)
     }
 }
 
-/// A node of the bank.
-#[derive(Drop)]
-pub struct NodeParty {
-    setup: Setup,
-    ccy: u8,
-    node: Node,
-}
-
-impl Model for NodeParty {
-    ghost use Rattle.pvp_types.specs.Setup.{IsValid};
-    ghost use Rattle.std.specs.Prelude.{◌<◌, length};
-    ghost use Rattle.rtgs_node.specs.Shown.{ShownNode};
-    ghost use Rattle.pvp_parties.specs.Made.{Made};
-
-    ghost Value = { Made ShownNode };
-
-    ghost view = { λ a. record { setup = a.setup; place = a.ccy; now = a.node } };
-
-    ghost invariant = { λ a. IsValid a.setup × (a.ccy < length a.setup.currencies) };
-}
-
-impl NodeParty {
+impl Placed<Node> {
     /// The node of a currency. `Err` where memory is refused.
     pub fn new(alloc: Global, setup: &Setup, ccy: u8) -> Result<Self, AllocError>
         requires valid { IsValid setup.now }
@@ -176,10 +172,10 @@ impl NodeParty {
         ensures place { IfOk result (λ made. made.place ≡ ccy) }
         ensures opens { IfOk result (λ made. nodes.Opens (made_node made) made.now) }
     {
-        Ok(NodeParty {
+        Ok(Placed {
             setup: setup.copy()?,
-            ccy,
-            node: Node::new(alloc, setup, ccy)?,
+            place: u16::from(ccy),
+            actor: Node::new(alloc, setup, ccy)?,
         })
     }
 
@@ -187,26 +183,7 @@ impl NodeParty {
     pub fn number(&self) -> u16
         ensures { result ≡ node_of self.now.place }
     {
-        node_of(self.ccy)
-    }
-
-    /// Takes an event. After an `Err` it is as it was.
-    pub fn take(
-        &mut self,
-        alloc: Global,
-        event: NodeEvent,
-    ) -> Result<Copies<Told<NodeFault>>, AllocError>
-        ensures step { IfOk result (λ copies.
-            Takes nodes.Comes nodes.after self.old.now event copies.answered
-            (λ y. y ≡ self.new.now)) }
-        ensures kept { self.new ≡ record self.old { now = self.new.now } }
-        ensures recorded { IfOk result (λ copies. copies.recorded ≡ copies.answered) }
-        ensures receipted { IfOk result (λ copies. copies.receipted ≡ copies.answered) }
-        ensures err { OnErr result (self.new ≡ self.old) }
-        ensures told { IfOk result (λ copies.
-            nodes.Tells self.old.now self.new.now event copies.answered) }
-    {
-        Actor::take(&mut self.node, alloc, event)
+        FIRST_NODE + self.place
     }
 
     /// Takes an event that came out so, and says whether it can. After `Err` or a no it may only be dropped.
@@ -221,46 +198,11 @@ impl NodeParty {
             (λ y. y ≡ self.new.now) can) }
         ensures kept { self.new ≡ record self.old { now = self.new.now } }
     {
-        follow_node(&mut self.node, alloc, event, told)
-    }
-
-    /// What its bank was set up with.
-    pub fn setup(&self) -> &Setup
-        ensures { result.now ≡ self.now.setup }
-    {
-        &self.setup
-    }
-
-    /// The node itself.
-    pub fn node(&self) -> &Node
-        ensures { result.now ≡ self.now.now }
-    {
-        &self.node
+        follow_node(&mut self.actor, alloc, event, told)
     }
 }
 
-/// A client of the bank.
-#[derive(Drop)]
-pub struct ClientParty {
-    setup: Setup,
-    number: u16,
-    client: Client,
-}
-
-impl Model for ClientParty {
-    ghost use Rattle.pvp_types.specs.Setup.{IsValid};
-    ghost use Rattle.std.specs.Prelude.{◌≤◌, length};
-    ghost use Rattle.pvp_world.specs.Client.{ShownClient};
-    ghost use Rattle.pvp_parties.specs.Made.{Made};
-
-    ghost Value = { Made ShownClient };
-
-    ghost view = { λ a. record { setup = a.setup; place = a.number; now = a.client } };
-
-    ghost invariant = { λ a. IsValid a.setup × (a.number ≤ length a.setup.members) };
-}
-
-impl ClientParty {
+impl Placed<Client> {
     /// The client of this number, 0 for the operator or a member's. `Err` where memory is refused.
     pub fn new(setup: &Setup, number: u16) -> Result<Self, AllocError>
         requires valid { IsValid setup.now }
@@ -269,10 +211,10 @@ impl ClientParty {
         ensures place { IfOk result (λ made. made.place ≡ number) }
         ensures opens { IfOk result (λ made. clients.Opens (made_client made) made.now) }
     {
-        Ok(ClientParty {
+        Ok(Placed {
             setup: setup.copy()?,
-            number,
-            client: Client::new(setup, number),
+            place: number,
+            actor: Client::new(setup, number),
         })
     }
 
@@ -280,26 +222,7 @@ impl ClientParty {
     pub fn number(&self) -> u16
         ensures { result ≡ self.now.place }
     {
-        self.number
-    }
-
-    /// Takes an event. After an `Err` it is as it was.
-    pub fn take(
-        &mut self,
-        alloc: Global,
-        event: ClientEvent,
-    ) -> Result<Copies<Told<ClientFault>>, AllocError>
-        ensures step { IfOk result (λ copies.
-            Takes clients.Comes clients.after self.old.now event copies.answered
-            (λ y. y ≡ self.new.now)) }
-        ensures kept { self.new ≡ record self.old { now = self.new.now } }
-        ensures recorded { IfOk result (λ copies. copies.recorded ≡ copies.answered) }
-        ensures receipted { IfOk result (λ copies. copies.receipted ≡ copies.answered) }
-        ensures err { OnErr result (self.new ≡ self.old) }
-        ensures told { IfOk result (λ copies.
-            clients.Tells self.old.now self.new.now event copies.answered) }
-    {
-        Actor::take(&mut self.client, alloc, event)
+        self.place
     }
 
     /// Takes an event that came out so, and says whether it can. After `Err` or a no it may only be dropped.
@@ -314,20 +237,6 @@ impl ClientParty {
             (λ y. y ≡ self.new.now) can) }
         ensures kept { self.new ≡ record self.old { now = self.new.now } }
     {
-        follow_client(&mut self.client, alloc, event, told)
-    }
-
-    /// What its bank was set up with.
-    pub fn setup(&self) -> &Setup
-        ensures { result.now ≡ self.now.setup }
-    {
-        &self.setup
-    }
-
-    /// The client itself.
-    pub fn client(&self) -> &Client
-        ensures { result.now ≡ self.now.now }
-    {
-        &self.client
+        follow_client(&mut self.actor, alloc, event, told)
     }
 }

@@ -69,22 +69,39 @@ impl<C: BootCell> Actor for PartyOf<C> {
     ghost brings = { Brings };
 
     /// An event of another kind of actor is a stray.
-    fn take(
+    fn take(&mut self, alloc: Global, event: PartyEvent) -> PartyOutcome {
+        match self {
+            PartyOf::Site(site) => match event {
+                PartyEvent::OfSite(event) => PartyOutcome::OfSite(site.take(alloc, event)),
+                _ => PartyOutcome::Stray,
+            },
+            PartyOf::Node(node) => match event {
+                PartyEvent::OfNode(event) => PartyOutcome::OfNode(node.take(alloc, event)),
+                _ => PartyOutcome::Stray,
+            },
+            PartyOf::Client(client) => match event {
+                PartyEvent::OfClient(event) => PartyOutcome::OfClient(client.take(alloc, event)),
+                _ => PartyOutcome::Stray,
+            },
+        }
+    }
+
+    fn take_copied(
         &mut self,
         alloc: Global,
         event: PartyEvent,
     ) -> Result<Copies<PartyOutcome>, AllocError> {
         match self {
             PartyOf::Site(site) => match event {
-                PartyEvent::OfSite(event) => Ok(of_site(site.take(alloc, event)?)),
+                PartyEvent::OfSite(event) => Ok(of_site(site.take_copied(alloc, event)?)),
                 _ => Ok(stray_copies()),
             },
             PartyOf::Node(node) => match event {
-                PartyEvent::OfNode(event) => Ok(of_node(node.take(alloc, event)?)),
+                PartyEvent::OfNode(event) => Ok(of_node(node.take_copied(alloc, event)?)),
                 _ => Ok(stray_copies()),
             },
             PartyOf::Client(client) => match event {
-                PartyEvent::OfClient(event) => Ok(of_client(client.take(alloc, event)?)),
+                PartyEvent::OfClient(event) => Ok(of_client(client.take_copied(alloc, event)?)),
                 _ => Ok(stray_copies()),
             },
         }
@@ -185,7 +202,7 @@ impl<C: BootCell> PartyOf<C> {
         ensures opens { IfOk result (λ party. (x : PartyState) →
             Opens party (Some (C.held cell)) x → Shows C.BootCell party x) }
     {
-        Ok(PartyOf::Site(SiteParty::new(alloc, setup, me, cell)?))
+        Ok(PartyOf::Site(SiteParty::<C>::new(alloc, setup, me, cell)?))
     }
 
     /// The node of a currency. `Err` where memory is refused.

@@ -12,6 +12,7 @@ use Rattle.vr_types.specs.declared.event.Status.{Status}
 use Rattle.vr_types.specs.declared.event.Status.TheVariants as status
 use Rattle.vr_types.specs.declared.event.Why.{Why}
 use Rattle.vr_types.specs.declared.machine.Machine.{Ghosts}
+use Rattle.vr_types.specs.declared.message.EnvelopeOf.{EnvelopeOf}
 use Rattle.vr_types.specs.Cell.{HasRisen}
 use Rattle.vr_types.specs.Choice.{IsRight}
 use Rattle.vr_types.specs.Handling.{envelopes, refusal, site_step, is_refused}
@@ -24,8 +25,9 @@ use Rattle.vr_site.specs.Replica.{ShownSite, KeepsPlace, site_shown, Does, Falls
 use Rattle.vr_site.proofs.Shows.{none_summed}
 use Rattle.headline.proofs.Basics.{none-some}
 use Rattle.pvp_world.proofs.Silent.{IsSilent, dropped-silent, crash-silent, silent-sends}
-use Rattle.pvp_rooms.specs.declared.site.CameOf.TheVariants.{Did, Fell}
-use Rattle.pvp_rooms.specs.Sites.{SiteState, step_in, Comes, after, IsSiteOf, Opens, Shows, IsHandled, HasCause}
+use Rattle.pvp_rooms.specs.declared.site.CameOf.{CameOf}
+use Rattle.pvp_rooms.specs.declared.site.CameOf.TheVariants.{Did, Refused, Fell}
+use Rattle.pvp_rooms.specs.Sites.{SiteState, step_in, Comes, HasSent, after, IsSiteOf, Opens, Shows, IsHandled, HasCause, Tells}
 
 -- an event that ended so is not refused
 pub ended_allowed : (dropped : Option Why) → is_refused (ended dropped) ≡ false
@@ -84,30 +86,6 @@ module _ {H C R O S B : Type 0} (m : Ghosts H C R O S) (c : Cell B) where
           site = d.site;
         },
       )
-
-      -- the site fell after its step, as a copy was refused
-      pub fell_after : (now : ShownSite C S B) (cell : Boot) → now ≡ record new { volatile = lost } → cell ≡ c.held now.cell
-          → Comes m x event (Fell NoMemory cell) × Shows m c now (after x event (Fell NoMemory cell))
-      fell_after now cell fallen held =
-          let d = does in
-          let last : cell ≡ c.held new.cell = held ∙ ap (λ v. c.held v.cell) fallen in
-          let left : KeepsPlace old now =
-          record { f = ap (λ v. v.f) fallen ∙ place.f; me = ap (λ v. v.me) fallen ∙ place.me; setup = ap (λ v. v.setup) fallen ∙ place.setup } in (
-            (
-              record {
-                allowed = ap is_refused d.ending ∙ ended_allowed out.dropped;
-                down = inr (ap (λ b. over b status.Down) (last ∙ sym (ap (λ y. y.cell) d.site)));
-              },
-              inl refl,
-            ),
-            record {
-              is =
-                  still old now (record x { site = over cell status.Down }) left
-                  (record { f = shows.is.f; me = shows.is.me; start = shows.is.start; right = shows.is.right });
-              acks = subst (λ (v : ShownSite C S B). SumUp v.volatile.acked []) (sym fallen) none_summed;
-              site = ap (λ b. over b status.Down) last ∙ sym (ap (λ v. site_shown c.held v []) fallen);
-            },
-          )
 
     module _ (why : SiteFault) (handles : Handles m c old new event (Err why)) (allowed : None ≡ refusal old.f old.me (site_shown c.held old []) event) where
       falls : Falls c old new x.site (step_in x event) why
@@ -171,29 +149,66 @@ module _ {H C R O S B : Type 0} (m : Ghosts H C R O S) (c : Cell B) where
       same : (r : Result (OutcomeOf C R O) SiteFault) (a : SiteFault) → r ≡ Err a → r ≡ Err CellFault → a ≡ CellFault
       same r a p q = cc
 
-  -- so it is where it fell after its step, as something that it sent could not be copied
-  pub after_by_cause : (old mid new : ShownSite C S B) (event : EventOf C R O) (out : OutcomeOf C R O) → KeepsPlace old mid → Handles m c old mid event (Ok out)
-      → out.sent.items ≢ [] → new ≡ record mid { volatile = lost } → c.faults mid.cell ≡ c.faults old.cell
-      → HasCause m c old new event NoMemory
-  after_by_cause old mid new event out place handles some fallen counted = record {
-    handled = λ x shows. handled x (does old mid x event shows place out handles);
-    failed = λ is. absurd (cc);
-    counted = λ other. ap (λ (v : ShownSite C S B). c.faults v.cell) fallen ∙ counted;
-  }
-    where
-      said : (x : SiteState H C) → Does m c old mid out (step_in x event) → IsSilent (step_in {R = R} {O = O} x event) → ⊥
-      said x d silent = some (d.sent ∙ silent-sends m (m.start old.setup) old.me (step_in x event) silent)
+  module _ (old mid now : ShownSite C S B) (event : EventOf C R O) (fallen : now ≡ record mid { volatile = lost }) where
+    left : KeepsPlace mid now
+    left = record { f = ap (λ v. v.f) fallen; me = ap (λ v. v.me) fallen; setup = ap (λ v. v.setup) fallen }
 
-      handled_as : (x : SiteState H C) → Does m c old mid out (step_in x event) → (why : Option Why) → (step_in {R = R} {O = O} x event).ending ≡ ended why
-          → (step_in {R = R} {O = O} x event).ending ≡ Handled
-      handled_as x d None e = e
-      handled_as x d (Some why) e = absurd (said x d (dropped-silent R O x.choose x.f x.me x.site event why e))
+    pub fall_kept : (boot : Boot) (x : SiteState H C) → Opens m now boot x → Opens m mid boot x
+    fall_kept boot x = opens_kept mid now boot x left
 
-      handled : (x : SiteState H C) → Does m c old mid out (step_in x event) → IsHandled {R = R} {O = O} x event
-      handled x d = record {
-        no_crash = λ crash. said x d (subst (λ (e : EventOf C R O). IsSilent (step_in x e)) (sym crash) (crash-silent R O x.choose x.f x.me x.site));
-        handled = handled_as x d out.dropped d.ending;
-      }
+    -- the site fell after its step, over what its cell then held
+    pub fell_over : (cell : Boot) (sent : List (EnvelopeOf C R O)) (dropped : Option Why) (x : SiteState H C) → cell ≡ c.held now.cell
+        → Comes m x event (Did sent dropped) × Shows m c mid (after x event (Did sent dropped))
+        → Comes m x event (Fell NoMemory cell) × Shows m c now (after x event (Fell NoMemory cell))
+    fell_over cell sent dropped x held (out, shows) =
+        let last : cell ≡ c.held mid.cell = held ∙ ap (λ v. c.held v.cell) fallen in (
+          (
+            record {
+              allowed = ap is_refused out.ending ∙ ended_allowed dropped;
+              down = inr (ap (λ b. over b status.Down) (last ∙ sym (ap (λ y. y.cell) shows.site)));
+            },
+            inl refl,
+          ),
+          record {
+            is =
+                still mid now (record x { site = over cell status.Down }) left
+                (record { f = shows.is.f; me = shows.is.me; start = shows.is.start; right = shows.is.right });
+            acks = subst (λ (v : ShownSite C S B). SumUp v.volatile.acked []) (sym fallen) none_summed;
+            site = ap (λ b. over b status.Down) last ∙ sym (ap (λ v. site_shown c.held v []) fallen);
+          },
+        )
+
+    -- so it is where a copy of what it sent was refused
+    pub fell_after : (cell : Boot) (came : CameOf C R O) (x : SiteState H C) → cell ≡ c.held now.cell → HasSent came
+        → Comes m x event came × Shows m c mid (after x event came) → Comes m x event (Fell NoMemory cell) × Shows m c now (after x event (Fell NoMemory cell))
+    fell_after cell (Did sent dropped) x held some both = fell_over cell sent dropped x held both
+    fell_after cell (Refused why) x held some both = absurd some
+    fell_after cell (Fell why other) x held some both = absurd some
+
+    -- and why it fell
+    pub after_by_cause : (came : CameOf C R O) → HasSent came → Tells m c old mid event came
+        → ((x : SiteState H C) → Shows m c old x → Comes m x event came × Shows m c mid (after x event came)) → HasCause m c old now event NoMemory
+    after_by_cause (Did sent dropped) some counted step = record {
+      handled = λ x shows. handled x ((step x shows).0);
+      failed = λ is. absurd (cc);
+      counted = λ other. ap (λ (v : ShownSite C S B). c.faults v.cell) fallen ∙ counted;
+    }
+      where
+        said : (x : SiteState H C) → Comes m x event (Did sent dropped) → IsSilent (step_in {R = R} {O = O} x event) → ⊥
+        said x out silent = some (out.sends ∙ silent-sends m x.start x.me (step_in x event) silent)
+
+        handled_as : (x : SiteState H C) → Comes m x event (Did sent dropped) → (why : Option Why) → (step_in {R = R} {O = O} x event).ending ≡ ended why
+            → (step_in {R = R} {O = O} x event).ending ≡ Handled
+        handled_as x out None e = e
+        handled_as x out (Some why) e = absurd (said x out (dropped-silent R O x.choose x.f x.me x.site event why e))
+
+        handled : (x : SiteState H C) → Comes m x event (Did sent dropped) → IsHandled {R = R} {O = O} x event
+        handled x out = record {
+          no_crash = λ crash. said x out (subst (λ (e : EventOf C R O). IsSilent (step_in x e)) (sym crash) (crash-silent R O x.choose x.f x.me x.site));
+          handled = handled_as x out dropped out.ending;
+        }
+    after_by_cause (Refused why) some counted step = absurd some
+    after_by_cause (Fell why cell) some counted step = absurd some
 
   -- a new replica shows the site that it opens as
   pub opened : (v : ShownSite C S B) (boot : Boot) (x : SiteState H C) → SumUp v.volatile.acked [] → site_shown c.held v [] ≡ opening_site v.f boot

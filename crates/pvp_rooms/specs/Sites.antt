@@ -1,5 +1,5 @@
 -- A replica as an actor: its states, and how events come out.
-use Rattle.std.specs.Prelude.{◌≡◌, ◌≢◌, ◌⊎◌, ◌<◌, ℕ, List, Option, Some}
+use Rattle.std.specs.Prelude.{◌≡◌, ◌≢◌, ◌⊎◌, ◌<◌, ℕ, List, [], Option, Some}
 use Rattle.vr_types.specs.declared.cell.Boot.{Boot}
 use Rattle.vr_types.specs.declared.cell.BootCell.{Ghosts as Cell}
 use Rattle.vr_types.specs.declared.event.EventOf.{EventOf}
@@ -45,6 +45,12 @@ Comes m x event (Did sent dropped) = IsOutcome m x (step_in x event) sent droppe
 Comes m x event (Refused why) = refusal x.f x.me x.site event ≡ Some why
 Comes m x event (Fell why cell) =
     IsFall x.site (step_in x event) (over cell status.Down) × ((why ≡ NoMemory) ⊎ (why ≡ CellFault))
+
+-- something was sent
+abbrev pub HasSent : {C R O : Type 0} → CameOf C R O → Type 0
+HasSent (Did sent dropped) = sent ≢ []
+HasSent (Refused why) = ⊥
+HasSent (Fell why cell) = ⊥
 
 -- the site after an event that came out so
 abbrev pub after : {H C R O : Type 0} → SiteState H C → EventOf C R O → CameOf C R O → SiteState H C

@@ -40,9 +40,17 @@ pub trait Actor: Drop {
     /// Whether the event brings something that a copy of it takes memory for.
     ghost brings: { Self.Event → Type 0 };
 
-    /// Takes an event. Where memory for the copies of what comes out is refused, an actor that can fall does so; any
-    /// other is as it was, and says so by `Err`.
-    fn take(
+    /// Takes an event, and answers how it came out.
+    fn take(&mut self, alloc: Global, event: Self::Event) -> Self::Outcome
+        ensures step { (x : Self.State) → shows self.old x →
+            Takes comes after x event result (shows self.new) }
+        ensures opens { (opening : Self.Opening) (x : Self.State) → opens self.new opening x →
+            opens self.old opening x }
+        ensures told { tells self.old self.new event result };
+
+    /// Takes an event, and answers three times how it came out. Where memory for the copies is refused, an actor that
+    /// can fall does so; any other is as it was, and says so by `Err`.
+    fn take_copied(
         &mut self,
         alloc: Global,
         event: Self::Event,

@@ -11,6 +11,7 @@ use headline::{ClientEvent, ClientFault};
 use pvp_types::Setup;
 use pvp_world::Client;
 use std::alloc::{AllocError, Global};
+use vr_types::SentOf;
 
 impl Actor for Client {
     ghost use Rattle.pvp_world.specs.Client.{ShownClient};
@@ -40,7 +41,20 @@ impl Actor for Client {
 
     ghost brings = { Brings };
 
-    fn take(
+    fn take(&mut self, alloc: Global, event: ClientEvent) -> Told<ClientFault>
+        ensures step { (x : ShownClient) → x ≡ self.old →
+            Takes Comes after x event result (λ y. y ≡ self.new) }
+        ensures opens { (opening : Unit {0}) (x : ShownClient) → Opens self.new x →
+            Opens self.old x }
+        ensures told { Tells self.old self.new event result }
+    {
+        match self.handle(alloc, event) {
+            Ok(sent) => Ok(SentOf::new(sent)),
+            Err(fault) => Err(fault),
+        }
+    }
+
+    fn take_copied(
         &mut self,
         alloc: Global,
         event: ClientEvent,
@@ -55,7 +69,7 @@ impl Actor for Client {
         ensures told { IfOk result (λ copies. Tells self.old self.new event copies.answered) }
     {
         let room = SentRoom::new(alloc, self.faults())?;
-        Ok(match self.handle(alloc, event) {
+        Ok(match Actor::take(self, alloc, event) {
             Ok(sent) => room.copies(alloc, sent),
             Err(fault) => refusal_copies(fault),
         })

@@ -12,6 +12,7 @@ use pvp_book::node_of;
 use pvp_types::Setup;
 use rtgs_node::{Node, NodeEvent, NodeFault};
 use std::alloc::{AllocError, Global};
+use vr_types::SentOf;
 
 impl Actor for Node {
     ghost use Rattle.rtgs_node.specs.Shown.{ShownNode};
@@ -41,7 +42,19 @@ impl Actor for Node {
 
     ghost brings = { Brings };
 
-    fn take(
+    fn take(&mut self, _alloc: Global, event: NodeEvent) -> Told<NodeFault>
+        ensures step { (x : ShownNode) → x ≡ self.old →
+            Takes Comes after x event result (λ y. y ≡ self.new) }
+        ensures opens { (opening : Unit {0}) (x : ShownNode) → Opens self.new x → Opens self.old x }
+        ensures told { Tells self.old self.new event result }
+    {
+        match self.handle(event) {
+            Ok(sent) => Ok(SentOf::new(sent)),
+            Err(fault) => Err(fault),
+        }
+    }
+
+    fn take_copied(
         &mut self,
         alloc: Global,
         event: NodeEvent,
@@ -55,7 +68,7 @@ impl Actor for Node {
         ensures told { IfOk result (λ copies. Tells self.old self.new event copies.answered) }
     {
         let room = SentRoom::new(alloc, self.setup().faults())?;
-        Ok(match self.handle(event) {
+        Ok(match Actor::take(self, alloc, event) {
             Ok(sent) => room.copies(alloc, sent),
             Err(fault) => refusal_copies(fault),
         })

@@ -32,17 +32,17 @@ impl SentRoom {
     }
 
     /// Three copies of what was sent, for answer, history and receipt. It takes no memory.
-    pub(crate) fn copies<F>(self, alloc: Global, sent: Vec<Envelope<Book>>) -> Copies<Told<F>>
-        requires room { HasRoom (length sent.items) self }
-        requires fixed { All (λ envelope. has_fixed_size envelope.msg ≡ true) sent.items }
-        ensures answered { result.answered ≡ Ok sent.items }
-        ensures recorded { result.recorded ≡ Ok sent.items }
-        ensures receipted { result.receipted ≡ Ok sent.items }
+    pub(crate) fn copies<F>(self, alloc: Global, sent: Sent<Book>) -> Copies<Told<F>>
+        requires room { HasRoom (length sent) self }
+        requires fixed { All (λ envelope. has_fixed_size envelope.msg ≡ true) sent }
+        ensures answered { result.answered ≡ Ok sent }
+        ensures recorded { result.recorded ≡ Ok sent }
+        ensures receipted { result.receipted ≡ Ok sent }
     {
         let recorded = copy_in_room(alloc, sent.as_slice(), self.recorded);
         let receipted = copy_in_room(alloc, sent.as_slice(), self.receipted);
         Copies {
-            answered: Ok(SentOf::new(sent)),
+            answered: Ok(sent),
             recorded: Ok(recorded),
             receipted: Ok(receipted),
         }

@@ -91,7 +91,7 @@ impl<A: Actor> Room<A> {
             return Answer::NoMemory;
         };
         let stamp = input.stamp;
-        let Ok(copies) = self.actor.take(alloc, input.event) else {
+        let Ok(copies) = self.actor.take_copied(alloc, input.event) else {
             return Answer::NoMemory;
         };
         self.clock = clock;

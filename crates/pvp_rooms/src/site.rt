@@ -2,7 +2,7 @@
 ghost use Rattle.std.specs.Prelude.{◌≡◌, ◌+◌, [], IfOk, IsOk, OnErr};
 ghost use Rattle.vr_types.specs.Group.{actor_of};
 ghost use Rattle.pvp_rooms.specs.Closing.{fresh_seats};
-ghost use Rattle.pvp_rooms.specs.Sites.{SiteState, Opens, Shows};
+ghost use Rattle.pvp_rooms.specs.Sites.{HasSent, SiteState, Opens, Shows};
 
 use crate::actor::Actor;
 use crate::cell::ActorCell;
@@ -11,8 +11,7 @@ use crate::seat::Seat;
 use std::alloc::{AllocError, Global};
 use vr_site::Replica;
 use vr_types::{
-    Boot, BootCell, Config, Event, EventOf, FIRST_SITE, Machine, Outcome, Sent, SentOf, SiteFault,
-    Why,
+    Boot, BootCell, Config, Event, EventOf, FIRST_SITE, Machine, Sent, SentOf, SiteFault, Why,
 };
 
 /// How an event came out at a site.
@@ -61,20 +60,35 @@ impl<M: Machine, C: BootCell> Actor for Replica<M, C> {
 
     ghost brings = { λ event. Brings event };
 
-    /// Where a copy of what the site sent is refused after its step, the site falls.
-    fn take(&mut self, alloc: Global, event: Event<M>) -> Result<Copies<Came<M>>, AllocError> {
+    fn take(&mut self, alloc: Global, event: Event<M>) -> Came<M> {
         if let Some(why) = self.refuses(&event) {
-            return Ok(refusal_copies::<M>(why));
+            return CameOf::Refused(why);
         }
         match self.handle(alloc, event) {
-            Err(why) => Ok(fall_copies::<M>(why, self.boot())),
-            Ok(out) => match outcome_copies::<M>(alloc, out) {
-                Ok(copies) => Ok(copies),
-                Err(_) => {
-                    self.fall();
-                    Ok(fall_copies::<M>(SiteFault::NoMemory, self.boot()))
-                }
+            Err(why) => CameOf::Fell {
+                why,
+                cell: self.boot(),
             },
+            Ok(out) => CameOf::Did {
+                dropped: out.dropped,
+                sent: SentOf::new(out.sent),
+            },
+        }
+    }
+
+    /// Where a copy of what the site sent is refused after its step, the site falls.
+    fn take_copied(
+        &mut self,
+        alloc: Global,
+        event: Event<M>,
+    ) -> Result<Copies<Came<M>>, AllocError> {
+        let came = Actor::take(self, alloc, event);
+        match came_copies::<M>(alloc, came) {
+            Ok(copies) => Ok(copies),
+            Err(_) => {
+                self.fall();
+                Ok(fall_copies::<M>(SiteFault::NoMemory, self.boot()))
+            }
         }
     }
 
@@ -119,28 +133,37 @@ impl<M: Machine, C: BootCell> ActorCell<Replica<M, C>> {
     }
 }
 
-/// The outcome of a step, for answer, history and receipt. `Err` where memory is refused, which
-/// only a step that sent something takes.
-fn outcome_copies<M: Machine>(alloc: Global, out: Outcome<M>) -> Result<Copies<Came<M>>, AllocError>
-    ensures answered { IfOk result (λ copies. copies.answered
-        ≡ CameOf.Did out.sent.items out.dropped) }
-    ensures recorded { IfOk result (λ copies. copies.recorded ≡ copies.answered) }
-    ensures receipted { IfOk result (λ copies. copies.receipted ≡ copies.answered) }
-    ensures nothing { out.sent.items ≡ [] → IsOk result }
+/// How an event came out, for answer, history and receipt. `Err` where memory is refused, which is asked for only where
+/// something was sent.
+fn came_copies<M: Machine>(alloc: Global, came: Came<M>) -> Result<Copies<Came<M>>, AllocError>
+    ensures answered { IfOk result (λ copies. copies.answered ≡ came) }
+    ensures recorded { IfOk result (λ copies. copies.recorded ≡ came) }
+    ensures receipted { IfOk result (λ copies. copies.receipted ≡ came) }
+    ensures err { OnErr result (HasSent came) }
 {
-    let dropped = out.dropped;
-    let sent: Sent<M> = SentOf::new(out.sent);
-    let recorded = copy_of::<M>(alloc, &sent)?;
-    let receipted = copy_of::<M>(alloc, &sent)?;
+    let recorded = copy_came::<M>(alloc, &came)?;
+    let receipted = copy_came::<M>(alloc, &came)?;
     Ok(Copies {
-        answered: CameOf::Did { sent, dropped },
-        recorded: CameOf::Did {
-            sent: recorded,
-            dropped,
+        answered: came,
+        recorded,
+        receipted,
+    })
+}
+
+/// A copy of how an event came out. `Err` where memory is refused, which is asked for only where something was sent.
+fn copy_came<M: Machine>(alloc: Global, came: &Came<M>) -> Result<Came<M>, AllocError>
+    ensures copy { IfOk result (λ copy. copy ≡ came.now) }
+    ensures err { OnErr result (HasSent came.now) }
+{
+    Ok(match came {
+        CameOf::Did { sent, dropped } => CameOf::Did {
+            sent: copy_of::<M>(alloc, sent)?,
+            dropped: *dropped,
         },
-        receipted: CameOf::Did {
-            sent: receipted,
-            dropped,
+        CameOf::Refused(why) => CameOf::Refused(*why),
+        CameOf::Fell { why, cell } => CameOf::Fell {
+            why: *why,
+            cell: *cell,
         },
     })
 }
@@ -154,19 +177,6 @@ fn copy_of<M: Machine>(alloc: Global, sent: &Sent<M>) -> Result<Sent<M>, AllocEr
         return Ok(SentOf::new(Vec::new(alloc)));
     }
     sent.copy(alloc)
-}
-
-/// A refusal, for answer, history and receipt.
-fn refusal_copies<M: Machine>(why: SiteFault) -> Copies<Came<M>>
-    ensures answered { result.answered ≡ CameOf.Refused why }
-    ensures recorded { result.recorded ≡ result.answered }
-    ensures receipted { result.receipted ≡ result.answered }
-{
-    Copies {
-        answered: CameOf::Refused(why),
-        recorded: CameOf::Refused(why),
-        receipted: CameOf::Refused(why),
-    }
 }
 
 /// A fall, for answer, history and receipt.

@@ -163,7 +163,7 @@ impl<C: BootCell, L: Log, O: Outbox + Drop> Serving<C, L, O> {
         let Some(PartyOf::Client(party)) = self.actor() else {
             return None;
         };
-        let client = party.client();
+        let client = party.actor();
         Some(Request {
             number: client.number(),
             answer: client.answer(),
@@ -177,7 +177,7 @@ impl<C: BootCell, L: Log, O: Outbox + Drop> Serving<C, L, O> {
         let Some(PartyOf::Site(party)) = self.actor() else {
             return None;
         };
-        let site = party.replica();
+        let site = party.actor();
         Some(Standing {
             status: site.status(),
             view: site.view(),
@@ -193,7 +193,7 @@ impl<C: BootCell, L: Log, O: Outbox + Drop> Serving<C, L, O> {
         let Some(PartyOf::Site(party)) = self.actor() else {
             return false;
         };
-        match party.replica().machine() {
+        match party.actor().machine() {
             Some(book) => book.open(0).is_some(),
             None => false,
         }
@@ -206,7 +206,7 @@ impl<C: BootCell, L: Log, O: Outbox + Drop> Serving<C, L, O> {
         let Some(PartyOf::Site(party)) = self.actor() else {
             return None;
         };
-        let site = party.replica();
+        let site = party.actor();
         let orders = match site.machine() {
             Some(book) => book.open_count(),
             None => 0,

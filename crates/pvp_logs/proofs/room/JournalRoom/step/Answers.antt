@@ -21,11 +21,11 @@ invariant_of-room-2 g c =
       waiting = at.waiting.items;
     } in
     let kept = c.room.invariant in
-    let outcome = c.in-Ok-take.copies.answered in (
+    let outcome = c.take.result in (
       with_pending kept.0 (receipt c.args.input c.in-Some.clock outcome),
       rw (c.push_reserved.ensures.items, c.reserve.ensures.items, c.in_ok-room-inside.ensures.sum, c.in_ok-room-inside.ensures.written, c.in-Ok.ensures.copy)
           (taken g.A.Actor g.A.Journaled.texts g.L.Log.seen held c.take.new.self c.args.input c.in-Some.clock outcome kept.0 kept.1
-          (record { step = c.in-Ok-take.ensures.step; opens = c.take.ensures.opens; told = c.in-Ok-take.ensures.told }) (sym c.in-Some.ensures)).1,
+          (record { step = c.take.ensures.step; opens = c.take.ensures.opens; told = c.take.ensures.told }) (sym c.in-Some.ensures)).1,
     )
 
 pub returns-clause-ok : goal.returns-clause-ok
@@ -54,13 +54,13 @@ returns-clause-ok g c = λ past keeps.
       waiting = c.push_reserved.new.self.items;
     } in
     let kept = subst (λ room. Keeps g.A.Actor g.A.Journaled.texts g.L.Log.seen room past) (sym c.room.view_is) keeps in
-    let outcome = c.in-Ok-take.copies.answered in
+    let outcome = c.take.result in
     let r = receipt c.args.input c.in-Some.clock outcome in
     let both : Took g.A.Actor c.args.input (shown_room held past) (shown_room new (with_pending past r)) c.in-Some.clock outcome
     × Keeps g.A.Actor g.A.Journaled.texts g.L.Log.seen new (with_pending past r) =
     rw (c.push_reserved.ensures.items, c.reserve.ensures.items, c.in_ok-room-inside.ensures.sum, c.in_ok-room-inside.ensures.written, c.in-Ok.ensures.copy)
     (taken g.A.Actor g.A.Journaled.texts g.L.Log.seen held c.take.new.self c.args.input c.in-Some.clock outcome past kept
-    (record { step = c.in-Ok-take.ensures.step; opens = c.take.ensures.opens; told = c.in-Ok-take.ensures.told }) (sym c.in-Some.ensures)) in
+    (record { step = c.take.ensures.step; opens = c.take.ensures.opens; told = c.take.ensures.told }) (sym c.in-Some.ensures)) in
     subst (λ room. TookOne g.A.Actor g.A.Journaled.texts g.L.Log.seen c.args.input room new past c.in-Some.clock) c.room.view_is (outcome, both.0, both.1)
 
 -- src/room.rt
@@ -78,7 +78,7 @@ returns-in_err-room-inside-clause-unfit g c = λ told.
       batch = at.batch.items;
       waiting = at.waiting.items;
     } in
-    let outcome = c.in-Ok-take.copies.answered in
+    let outcome = c.take.result in
     let clock = c.in-Some.clock in
     let p = err_from_is_err_and c.from_residual.result c.from_residual.ensures.1 in
     let is : c.in_err-room-inside.field-0.0 ≡ Unfit = cc (told, p.1, p.2) in
@@ -86,7 +86,7 @@ returns-in_err-room-inside-clause-unfit g c = λ told.
       clock,
       outcome,
       sym c.in-Some.ensures,
-      λ x shows. (c.in-Ok-take.ensures.step x shows).0,
+      λ x shows. (c.take.ensures.step x shows).0,
       λ fits. c.in_err-room-inside.ensures.unfit (ap Err is)
           (subst (λ event. g.A.Journaled.fits at.number (record { event = event; stamp = c.args.input.stamp; clock = clock; outcome = outcome }))
           (sym c.in-Ok.ensures.copy) fits),
