@@ -281,7 +281,7 @@ const SETUP_HELP: &str =
 const SCRIPT_HELP: &str = "A script: a text file with one statement a line";
 
 const EXPLAIN_HELP: &str =
-    "After a fault prints a second line, which says where it is and why: which rule is broken by which part or line, or which file was not read";
+    "After a fault prints a second line, which says what is wrong and, where it can, in which part, line or file";
 
 const NO_EXPLAIN_HELP: &str = "Prints no second line, even with `--explain`";
 

@@ -43,12 +43,17 @@ pub fn name_in(alloc: Global, folder: &str, name: &str) -> Result<String, ServeF
     }
 }
 
-/// Makes the folder where it is not there, and takes it for this process alone, for as long as the file that is answered
-/// is open.
-pub fn take_folder<R: Host>(rt: R, folder: &str) -> Result<File, ServeFault> {
-    if let Err(failed) = fs::create_dir_all(&rt, folder) {
-        return Err(io_fault(failed));
+/// Makes the folder where it is not there.
+pub fn make_folder<R: Host>(rt: R, folder: &str) -> Result<(), ServeFault> {
+    match fs::create_dir_all(&rt, folder) {
+        Ok(()) => Ok(()),
+        Err(failed) => Err(io_fault(failed)),
     }
+}
+
+/// Takes the folder for this process alone, for as long as the file that is answered is open. `Err` with X8 where there is no
+/// such folder.
+pub fn take_folder<R: Host>(rt: R, folder: &str) -> Result<File, ServeFault> {
     let name = name_in(rt.alloc(), folder, "lock")?;
     let file = match OpenOptions::new()
         .write(true)
@@ -56,6 +61,9 @@ pub fn take_folder<R: Host>(rt: R, folder: &str) -> Result<File, ServeFault> {
         .open(&rt, name.as_str())
     {
         Ok(file) => file,
+        Err(failed) if failed.kind() == ErrorKind::NotFound => {
+            return Err(ServeFault::Folder(FolderWhy::Unbegun));
+        }
         Err(failed) => return Err(io_fault(failed)),
     };
     for _ in 0..LOCK_TRIES {

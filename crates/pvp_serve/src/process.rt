@@ -12,7 +12,7 @@ use crate::answers::greet;
 use crate::attending::Desk;
 use crate::desk::TerminalDesk;
 use crate::dialing::{Dialed, addresses_of, dial};
-use crate::folder::{read_paper, take_folder};
+use crate::folder::{make_folder, read_paper, take_folder};
 use crate::host::{Host, Wires};
 use crate::inbox::Inbox;
 use crate::lanes::Lanes;
@@ -93,6 +93,7 @@ pub fn begin<R: Host>(rt: R, beginning: &Beginning<'_>) -> Result<(), ServeFault
     };
     let id = bank_of(text.as_slice(), life_of(life.as_slice()));
     let me = actor_of(&setup, beginning.who)?;
+    make_folder(rt, beginning.data)?;
     let _lock = take_folder(rt, beginning.data)?;
     let place = Place::new(&setup, id, me, beginning.data, true);
     opening::begin(rt, &place)

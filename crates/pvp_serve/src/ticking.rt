@@ -36,17 +36,18 @@ pub fn tick<R: Wires>(rt: R, every: u32, inbox: Sender<Inbox>) {
     }
 }
 
-/// Puts the lines of the terminal into the inbox, and then their end.
+/// Puts the lines of the terminal into the inbox, of any bytes, and then their end. A line ends with a line feed, and a
+/// carriage return before it is no part of it.
 pub fn read_lines<R: Wires, L: BufRead + Drop>(rt: R, terminal: L, inbox: Sender<Inbox>) {
     let alloc = rt.alloc();
-    for line in terminal.lines(alloc) {
-        let Ok(line) = line else {
+    for line in terminal.split(alloc, b'\n') {
+        let Ok(mut line) = line else {
             break;
         };
-        let Ok(bytes) = Vec::from_slice(alloc, line.as_str().as_bytes()) else {
-            break;
-        };
-        if !tell(&rt, &inbox, Inbox::Line(bytes)) {
+        if line.last() == Some(&b'\r') {
+            line.pop();
+        }
+        if !tell(&rt, &inbox, Inbox::Line(line)) {
             return;
         }
     }
