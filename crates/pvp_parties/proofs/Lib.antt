@@ -2,7 +2,7 @@
 pub mod Lists
 -- a replica takes an event again
 pub mod SiteFollows
--- events of another kind of actor
+-- events of an actor's own kind, and of another, which are strays
 pub mod Strays
 -- numbers that rise from place to place
 pub mod Rising
