@@ -1,5 +1,6 @@
 """Plays: what is printed of worked scripts, line by line, and that chaos keeps every account. Traces: each step with what came of
 it and what it sent."""
+import itertools
 import re
 
 from program import PLAY, SETUP, TRACE, Runs, adds_up, of_sites
@@ -157,15 +158,17 @@ drain 100
 print
 payin ALFA USD 1
 """
+        books = [[f"site {site} normal view 0 log 3 done 3 cell 0", "  ALFA 0 1200 0", "  open 0"] for site in range(3)]
         self.shows(PLAY, script, [
             "node USD account 1200 payins 1 payouts 0",
             "  site 0 figure 1000 way 200",
             "  site 1 figure 1200 way 0",
-            "site 0 normal view 0 log 3 done 3 cell 0",
-            "  ALFA 0 1200 0",
-            "  open 0",
+            "  site 2 figure 1200 way 0",
+            *itertools.chain(*books),
             "node USD account 1200 payins 1 payouts 0 returned 1",
             "  site 0 figure 1200 way 0",
+            "  site 1 figure 1200 way 0",
+            "  site 2 figure 1200 way 0",
             "client ALFA 1 order 1",
             "refused 15 N7",
         ])
@@ -204,8 +207,10 @@ print
         self.assertTrue(adds_up(text))
 
     def test_chaos_keeps_every_account_of_more_sites(self):
+        script = "chaos 7 20000\nprint\n"
         for sites in (3, 5, 7):
-            text = self.printed(PLAY, of_sites(sites), "chaos 7 20000\nprint\n")
+            text = self.printed(PLAY, of_sites(sites), script)
+            self.assertEqual(self.printed(PLAY, of_sites(sites), script), text, sites)
             self.assertTrue(adds_up(text), sites)
 
     def test_accounts_come_to_the_figures_after_chaos(self):

@@ -70,7 +70,7 @@ F6  the fields end before the frame does, or after it
 F7  memory was refused
 E1  a live run lost a seat, or a site of it had not begun with a new cell, so its actors could not be audited
 M1  the bytes do not begin with PVPJ
-M2  the version is not 1
+M2  the version is neither 1 nor 2
 M3  the head is cut off, or its opening has another flag
 M4  a record's length does not have its complement behind it
 M5  a record has another checksum

@@ -3,5 +3,7 @@
 
 mod back;
 mod histories;
+mod old;
 mod resumed;
 mod rooms;
+mod versions;

@@ -1,8 +1,8 @@
 //! The bank's actors as one kind of actor, and how what they left is judged.
 
 mod altered;
-mod bank;
+pub mod bank;
 mod closing;
-mod common;
+pub mod common;
 mod judged;
 mod recorded;

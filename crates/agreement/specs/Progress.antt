@@ -1,4 +1,5 @@
--- NO DEAD END: where f+1 sites run, the sites can go on, without a crash, until all work in one view with one log.
+-- NO DEAD END: where f+1 sites run, no view number is near the last and logs have room, the sites can go on, without a
+-- crash, until all work in one view with one log.
 use Rattle.std.specs.Prelude.{◌≡◌, ℕ, ◌+◌, ◌*◌, ◌<◌, ◌≤◌, Bool, true, false, List, [], ◌∷◌, ◌++◌, length, slice_get, All, Contains, Some, count_by, IsSomeAnd, ⊤}
 use Rattle.std.specs.Option.{option_map_or}
 use Rattle.vr_types.specs.declared.event.EventOf.{EventOf}

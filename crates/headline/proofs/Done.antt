@@ -1,10 +1,10 @@
 -- Each order of the book is done or returned and has its end, one after another: then nothing is left to do, and nothing
 -- is on the way between any node and the book.
-use Rattle.std.proofs.Common.{◌≡◌, ◌⊎◌, inl, inr, ℕ, ◌+◌, ◌<◌, ◌≤◌, Bool, true, false, if◌then◌else◌, ℤ, pos, ◌+ℤ◌, ◌-ℤ◌, List, [], ◌∷◌, ◌++◌, length, slice_get, Option, Some, None, refl, sym, ap, ◌∙◌, subst, arith, true≢false}
-use Rattle.std.specs.Prelude.{◌||◌, Contains, IsSomeAnd}
+use Rattle.std.proofs.Common.{◌≡◌, ◌⊎◌, inl, inr, ℕ, ◌+◌, ◌-◌, ◌*◌, ◌<◌, ◌≤◌, Bool, true, false, if◌then◌else◌, ℤ, pos, ◌+ℤ◌, ◌-ℤ◌, List, [], ◌∷◌, ◌++◌, length, take, drop, count_by, sum_by, slice_get, Option, Some, None, refl, sym, ap, ◌∙◌, subst, arith, true≢false}
+use Rattle.std.specs.Prelude.{◌||◌, Contains, IsSomeAnd, is_some}
 use Rattle.std.specs.Option.{option_map_or}
-use Rattle.std.proofs.lemmas.Bool.{cases_lt}
 use Rattle.std.proofs.lemmas.Int.{ints}
+use Rattle.std.proofs.lemmas.List.{take-append-drop, length-append}
 use Rattle.std.proofs.lemmas.Option.{slice_get_within}
 use Rattle.std.proofs.lemmas.List.Elements.{All-append}
 use Rattle.pvp_types.specs.declared.setup.Setup.{Setup}
@@ -17,11 +17,10 @@ use Rattle.vr_types.specs.Site.{Site, is_running, executed_rows}
 use Rattle.vr_types.proofs.ChoosingPick.{Contains-here, Contains-there, Contains-cases, Contains-none}
 use Rattle.agreement.specs.Promises.{Begins}
 use Rattle.agreement.proofs.Beginnings.{begins-trans, begins_itself}
-use Rattle.pvp_book.proofs.Counts.{count-cons}
 use Rattle.pvp_book.specs.declared.entry.Entry.{Entry}
 use Rattle.pvp_book.specs.Answer.{Row, book_of, has_order}
-use Rattle.pvp_book.specs.Ledger.{has_pay_in, figure}
-use Rattle.pvp_book.specs.Orders.{order_by, orders, is_payment, has_payment, is_return, has_return, is_end, has_end}
+use Rattle.pvp_book.specs.Ledger.{has_pay_in, figure, node_of, outstanding_orders}
+use Rattle.pvp_book.specs.Orders.{orders, is_payment, has_payment, is_return, has_return, is_end, has_end}
 use Rattle.rtgs_node.specs.Node.{Node, account, has_done, has_returned, is_known}
 use Rattle.rtgs_node.specs.declared.payment.PayIn.{PayIn}
 use Rattle.headline.specs.Bank.{Bank}
@@ -30,29 +29,32 @@ use Rattle.headline.specs.Headline.{IsDone as IsPaid, IsReturned}
 use Rattle.headline.specs.Legal.{LegalList, Moment, MomentOf}
 use Rattle.headline.specs.Way.{not_credited, not_done, not_ordered, way}
 use Rattle.agreement.specs.Progress.{runs_at, AreWorking, WorksIn}
-use Rattle.headline.specs.Progress.{IsGentle, CanGoOn, NothingOnTheWay, AllIsDone, SitesProgress, Rests, Progresses, unanswered_count}
+use Rattle.headline.specs.Progress.{IsGentle, CanGoOn, NothingOnTheWay, AllIsDone, SitesProgress, Rests, Progresses, open_in, may_be_open, waiting_count, unanswered_count}
 use Rattle.headline.specs.Progress as progress
-use Rattle.headline.proofs.Basics.{none-some, some-same, there, place_of, filter_map-has, filter_map-in}
+use Rattle.headline.proofs.Basics.{some-same, there, place_of}
 use Rattle.headline.proofs.Invariant.{Holds}
 use Rattle.headline.proofs.Laws as laws
 use Rattle.headline.proofs.Onward as onward
 use Rattle.headline.proofs.Runs.{run_append, longer_list, moment_longer}
 use Rattle.headline.proofs.Stages.{Comes, stays, comes_then}
-use Rattle.headline.proofs.Resting.{RestsWith, rests_with, there_is}
+use Rattle.headline.proofs.Resting.{RestsWith, rests_with, there_is, rows_with_ends}
 use Rattle.headline.proofs.Books.{ordered-more}
-use Rattle.headline.proofs.Endings.{end_stays, order_there, ccy_of, made_in, is_pay_out, pay_outs_in, made_by_pay_out}
+use Rattle.headline.proofs.Endings.{end_stays, order_there, is_due, is_outstanding, more_open}
 use Rattle.headline.proofs.Reached.{legal-holds}
 use Rattle.headline.proofs.Settled.{here, log_begins, whole, once_whole}
 use Rattle.headline.proofs.Credited.{credit_stays, credited, sum_none, none_uncredited}
 use Rattle.headline.proofs.Ends.{AreCalm, IsGrown, AreGrown, grown_still, IsDone, order_done}
 
--- the orders of these entries have their ends, and what was ordered is the same
-pub record AreDone (setup : Setup) (f view : ℕ) (log : List Row) (todo : List Entry) (before after : Bank) : Type 0 where
+-- an order, with the client number of its node
+abbrev pub Due : Type 0
+Due = ℕ × PaymentOrder
+
+-- these orders have their ends, and what was ordered is the same
+pub record AreDone (setup : Setup) (f view : ℕ) (log : List Row) (todo : List Due) (before after : Bank) : Type 0 where
   pub more : List Row
   pub longer : Begins log more
   pub ordered : (d : ℕ) → orders (book_of setup more) d ≡ orders (book_of setup log) d
-  pub ended : (e : Entry) (c : ℕ) (order : PaymentOrder) → Contains todo e → order_by c e.client e.cmd e.reply ≡ Some order → c < length setup.currencies
-      → has_end (book_of setup more) c order.out ≡ true
+  pub ended : (c : ℕ) (order : PaymentOrder) → Contains todo (node_of c, order) → has_end (book_of setup more) c order.out ≡ true
   pub working : AreWorking f view more after.sites
   pub runs : (i : ℕ) → runs_at before.sites i ≡ true → runs_at after.sites i ≡ true
   pub calm : AreCalm after
@@ -73,78 +75,46 @@ grown_then setup log more before middle after same first second d z at =
     by u w g o (inr new) = inr (subst (λ (os : List PaymentOrder). Contains os o) (same d) new)
 
 module _ (setup : Setup) (f : ℕ) (some : 1 ≤ f) (view : ℕ) where
-  -- what the entries order is in the book
-  AreOrders : List Row → List Entry → Type 0
-  AreOrders log todo = (e : Entry) (c : ℕ) (order : PaymentOrder) → Contains todo e → order_by c e.client e.cmd e.reply ≡ Some order
-      → Contains (orders (book_of setup log) c) order
+  -- each of these is an order of the book
+  record IsOrderOf (log : List Row) (due : Due) : Type 0 where
+    ccy : ℕ
+    node : due.0 ≡ node_of ccy
+    low : ccy < length setup.currencies
+    ordered : Contains (orders (book_of setup log) ccy) due.1
 
-  do_orders : (todo : List Entry) (list : LegalList setup f) (log : List Row) → AreWorking f view log list.bank.sites → AreCalm list.bank → AreOrders log todo
-      → length log + pay_outs_in todo ≤ MAX_ROWS
+  AreOrders : List Row → List Due → Type 0
+  AreOrders log todo = (due : Due) → Contains todo due → IsOrderOf log due
+
+  do_orders : (todo : List Due) (list : LegalList setup f) (log : List Row) → AreWorking f view log list.bank.sites → AreCalm list.bank → AreOrders log todo
+      → length log + length todo ≤ MAX_ROWS
       → Comes list (AreDone setup f view log todo list.bank)
   unfolding AreOrders
   do_orders [] list log are calm these room = stays list (AreDone setup f view log [] list.bank) (record {
     more = log;
     longer = begins_itself log;
     ordered = λ d. refl;
-    ended = λ e c order in' is low. absurd (Contains-none e in');
+    ended = λ c order in'. absurd (Contains-none (node_of c, order) in');
     working = are;
     runs = λ i e. e;
     calm = calm;
     nodes = grown_still setup log list.bank;
     clients = refl;
   })
-  do_orders (first ∷ todo) list log are calm these room =
-      by_order (order_by (ccy_of first.cmd) first.client first.cmd first.reply) refl (λ l lg a q o r. do_orders todo l lg a q o r)
+  do_orders (first ∷ todo) list log are calm these room = do_first (these first (Contains-here first todo)) (λ l lg a q o r. do_orders todo l lg a q o r)
     where
       Rest : Type 0
       Rest = (l : LegalList setup f) (lg : List Row) → AreWorking f view lg l.bank.sites → AreCalm l.bank → AreOrders lg todo
-          → length lg + pay_outs_in todo ≤ MAX_ROWS → Comes l (AreDone setup f view lg todo l.bank)
+          → length lg + length todo ≤ MAX_ROWS → Comes l (AreDone setup f view lg todo l.bank)
 
-      more_room : pay_outs_in (first ∷ todo) ≡ (if is_pay_out first.cmd then 1 else 0) + pay_outs_in todo
-      more_room = count-cons (λ (e : Entry). is_pay_out e.cmd) first todo
-
-      -- the first entry orders nothing
-      skip : Rest → ((c : ℕ) (order : PaymentOrder) → order_by c first.client first.cmd first.reply ≡ Some order → c < length setup.currencies → ⊥)
-          → Comes list (AreDone setup f view log (first ∷ todo) list.bank)
-      skip rest none =
-          let r = rest list log are calm (λ e c order in' is. these e c order (Contains-there first e todo in') is) (let m = more_room in omega arith) in
-          record {
-            moves = r.moves;
-            after = r.after;
-            run = r.run;
-            gentle = r.gentle;
-            holds = record {
-              more = r.holds.more;
-              longer = r.holds.longer;
-              ordered = r.holds.ordered;
-              ended = λ e c order in' is low. by r.after r.holds e c order is low (Contains-cases first e todo in');
-              working = r.holds.working;
-              runs = r.holds.runs;
-              calm = r.holds.calm;
-              nodes = r.holds.nodes;
-              clients = r.holds.clients;
-            };
-          }
-        where
-          by : (after : Bank) (d : AreDone setup f view log todo list.bank after) (e : Entry) (c : ℕ) (order : PaymentOrder)
-              → order_by c e.client e.cmd e.reply ≡ Some order → c < length setup.currencies → (first ≡ e) ⊎ Contains todo e
-              → has_end (book_of setup d.more) c order.out ≡ true
-          by after d e c order is low (inl same) = absurd (none c order (ap (λ (g : Entry). order_by c g.client g.cmd g.reply) same ∙ is) low)
-          by after d e c order is low (inr later) = d.ended e c order later is low
-
-      -- its order is done
-      do_first : (x : Node) (order : PaymentOrder) → slice_get list.bank.nodes (ccy_of first.cmd) ≡ Some x
-          → order_by (ccy_of first.cmd) first.client first.cmd first.reply ≡ Some order → Rest → Comes list (AreDone setup f view log (first ∷ todo) list.bank)
-      do_first x order at made rest =
-          let pays = made_by_pay_out (ccy_of first.cmd) first.client first.cmd first.reply order made in
-          let one_more : pay_outs_in (first ∷ todo) ≡ 1 + pay_outs_in todo = more_room ∙ ap (λ (t : Bool). (if t then 1 else 0) + pay_outs_in todo) pays in
-          let one =
-          order_done setup f some list view log are (omega arith) calm (ccy_of first.cmd) x at order
-          (these first (ccy_of first.cmd) order (Contains-here first todo) made) in
+      do_first : IsOrderOf log first → Rest → Comes list (AreDone setup f view log (first ∷ todo) list.bank)
+      do_first is rest =
+          let count = (here setup f some list view log are).count in
+          let x = there_is list.bank.nodes is.ccy (let low = is.low in omega (arith, low, count)) in
+          let one = order_done setup f some list view log are (omega (arith, room)) calm is.ccy x.0 x.1 first.1 is.ordered in
           let r = rest (longer_list list one.moves one.after one.run) one.holds.more one.holds.working one.holds.calm
-          (λ e c o in' is. subst (λ (os : List PaymentOrder). Contains os o) (sym (one.holds.ordered c)) (these e c o (Contains-there first e todo in') is))
-          (let g = one.holds.grows in omega arith) in
-          comes_then list (IsDone setup f view log (ccy_of first.cmd) order.out list.bank) (AreDone setup f view log (first ∷ todo) list.bank) one
+          (λ due in'. still one.after one.holds due (these due (Contains-there first due todo in')))
+          (let g = one.holds.grows in omega (arith, room, g)) in
+          comes_then list (IsDone setup f view log is.ccy first.1.out list.bank) (AreDone setup f view log (first ∷ todo) list.bank) one
           (record {
             moves = r.moves;
             after = r.after;
@@ -154,7 +124,7 @@ module _ (setup : Setup) (f : ℕ) (some : 1 ≤ f) (view : ℕ) where
               more = r.holds.more;
               longer = begins-trans one.holds.longer r.holds.longer;
               ordered = λ d. r.holds.ordered d ∙ one.holds.ordered d;
-              ended = λ e c o in' is low. by one.after r.after one.holds r.holds e c o is low (Contains-cases first e todo in');
+              ended = λ c o in'. by one.after r.after one.holds r.holds c o (Contains-cases first (node_of c, o) todo in');
               working = r.holds.working;
               runs = λ i e. r.holds.runs i (one.holds.runs i e);
               calm = r.holds.calm;
@@ -163,32 +133,24 @@ module _ (setup : Setup) (f : ℕ) (some : 1 ≤ f) (view : ℕ) where
             };
           })
         where
-          by : (middle end : Bank) (d : IsDone setup f view log (ccy_of first.cmd) order.out list.bank middle) (r : AreDone setup f view d.more todo middle end)
-              → (e : Entry) (c : ℕ) (o : PaymentOrder) → order_by c e.client e.cmd e.reply ≡ Some o → c < length setup.currencies
-              → (first ≡ e) ⊎ Contains todo e → has_end (book_of setup r.more) c o.out ≡ true
-          by middle end d r e c o is low (inr later) = r.ended e c o later is low
-          by middle end d r e c o is low (inl same) =
-              let is_first : order_by c first.client first.cmd first.reply ≡ Some o = ap (λ (g : Entry). order_by c g.client g.cmd g.reply) same ∙ is in
-              let ccy : ccy_of first.cmd ≡ c = made_in c first.client first.cmd first.reply o is_first in
-              let one : order ≡ o = some-same order o (sym made ∙ (ap (λ (k : ℕ). order_by k first.client first.cmd first.reply) ccy ∙ is_first)) in
-              subst (λ (k : ℕ). has_end (book_of setup r.more) k o.out ≡ true) ccy
-              (subst (λ (p : PaymentOrder). has_end (book_of setup r.more) (ccy_of first.cmd) p.out ≡ true) one
-              (end_stays setup d.more r.more (ccy_of first.cmd) order.out r.longer d.ended))
+          still : (middle : Bank) (d : IsDone setup f view log is.ccy first.1.out list.bank middle) (due : Due) → IsOrderOf log due → IsOrderOf d.more due
+          still middle d due o = record {
+            ccy = o.ccy;
+            node = o.node;
+            low = o.low;
+            ordered = subst (λ (os : List PaymentOrder). Contains os due.1) (sym (d.ordered o.ccy)) o.ordered;
+          }
 
-      by_order : (found : Option PaymentOrder) → order_by (ccy_of first.cmd) first.client first.cmd first.reply ≡ found → Rest
-          → Comes list (AreDone setup f view log (first ∷ todo) list.bank)
-      by_order None is rest = skip rest (λ c order made low.
-          none-some order
-          (sym is ∙ (ap (λ (k : ℕ). order_by k first.client first.cmd first.reply) (made_in c first.client first.cmd first.reply order made) ∙ made)))
-      by_order (Some order) is rest = by_node (cases_lt (ccy_of first.cmd) (length list.bank.nodes))
-        where
-          by_node : (ccy_of first.cmd < length list.bank.nodes) ⊎ (length list.bank.nodes ≤ ccy_of first.cmd)
-              → Comes list (AreDone setup f view log (first ∷ todo) list.bank)
-          by_node (inl low) = let t = there_is list.bank.nodes (ccy_of first.cmd) low in do_first t.0 order t.1 is rest
-          by_node (inr high) = skip rest (λ c o made low.
-              let ccy = made_in c first.client first.cmd first.reply o made in
-              let count = (here setup f some list view log are).count in
-              omega arith)
+          by : (middle end : Bank) (d : IsDone setup f view log is.ccy first.1.out list.bank middle) (r : AreDone setup f view d.more todo middle end)
+              → (c : ℕ) (o : PaymentOrder) → (first ≡ (node_of c, o)) ⊎ Contains todo (node_of c, o) → has_end (book_of setup r.more) c o.out ≡ true
+          by middle end d r c o (inr later) = r.ended c o later
+          by middle end d r c o (inl same) =
+              let number = ap (λ (due : Due). due.0) same in
+              let node = is.node in
+              let ccy : is.ccy ≡ c = omega (arith, number, node) in
+              subst (λ (k : ℕ). has_end (book_of setup r.more) k o.out ≡ true) ccy
+              (subst (λ (p : PaymentOrder). has_end (book_of setup r.more) is.ccy p.out ≡ true) (ap (λ (due : Due). due.1) same)
+              (end_stays setup d.more r.more is.ccy first.1.out r.longer d.ended))
 
 -- an end is a payment or a return
 end_parts : (entries : List Entry) (c out : ℕ) → has_end entries c out ≡ true → (has_payment entries c out ≡ true) ⊎ (has_return entries c out ≡ true)
@@ -238,28 +200,44 @@ by_place P all i runs each = by (slice_get all i) refl runs
 
 -- WHERE NOTHING IS LEFT
 
-module _ (setup : Setup) (f : ℕ) (some : 1 ≤ f) (list : LegalList setup f) (can : CanGoOn f list.bank) where
+-- the open orders of a log, by the first of its rows
+open_behind : (setup : Setup) (rows more log : List Row) → rows ++ more ≡ log → open_in setup log ≤ open_in setup rows + (length log - length rows)
+open_behind setup rows more log is =
+    let opens = more_open setup rows more in
+    let same = ap (open_in setup) is in
+    let long = length-append rows more in
+    let many = ap (length {A = Row}) is in
+    omega (arith, opens, same, long, many)
+
+-- and of a site's log, by its executed rows
+few_open : (setup : Setup) (x : Site Cmd) → open_in setup x.log ≤ may_be_open setup x
+few_open setup x = by (is_running x.status)
+  where
+    by : (b : Bool)
+        → let executed = if b then take x.done x.log else [] in open_in setup x.log ≤ open_in setup executed + (length x.log - length executed)
+    by true = open_behind setup (take x.done x.log) (drop x.done x.log) x.log (take-append-drop x.done x.log)
+    by false = open_behind setup [] x.log x.log refl
+
+module _ (setup : Setup) (f : ℕ) (some : 1 ≤ f) (list : LegalList setup f) (can : CanGoOn setup f list.bank) where
   sites_go : SitesProgress list
   sites_go = onward.sites_go_on setup f some list can
 
   list_sites : LegalList setup f
   list_sites = longer_list list sites_go.moves sites_go.after sites_go.run
 
-  -- the log, what waits, and the pay-outs that there may be, have room
-  room : (length sites_go.log + length sites_go.after.clients + unanswered_count sites_go.after ≤ MAX_ROWS)
-      × ((length sites_go.log + length sites_go.after.clients) + (length sites_go.log + length sites_go.after.clients + unanswered_count sites_go.after)
-      ≤ MAX_ROWS)
+  -- the log, what waits, and the ends of open orders have room
+  room : rows_with_ends setup sites_go.log + 2 * waiting_count sites_go.after + unanswered_count sites_go.after < MAX_ROWS
   room =
       let space = can.space sites_go.had.0 sites_go.had.1 in
-      let log_is = ap (length {A = Row}) sites_go.had.2 in
-      let same_clients = ap (length {A = Client}) sites_go.clients in
-      let same_notices : unanswered_count sites_go.after ≡ unanswered_count list.bank =
-      ap (λ (l : List Node). unanswered_count (record { sites = []; nodes = l; clients = []; post = [] })) sites_go.nodes in
-      (omega arith, omega arith)
+      let rows = few_open setup sites_go.had.0 in
+      let log_is = ap (rows_with_ends setup) sites_go.had.2 in
+      let same_clients = ap (λ (l : List Client). count_by (λ (k : Client). is_some k.waiting) l) sites_go.clients in
+      let same_notices = ap (λ (l : List Node). sum_by (λ (n : Node). length n.notices - n.answered) l) sites_go.nodes in
+      omega (arith, space, rows, log_is, same_clients, same_notices)
 
   rest_all : RestsWith setup f some sites_go.view list_sites sites_go.log
   unfolding list_sites
-  rest_all = rests_with setup f some sites_go.view list_sites sites_go.log sites_go.work.working room.0
+  rest_all = rests_with setup f some sites_go.view list_sites sites_go.log sites_go.work.working room
 
   rest : Rests list_sites sites_go.view
   rest = rest_all.rests
@@ -276,11 +254,11 @@ module _ (setup : Setup) (f : ℕ) (some : 1 ≤ f) (list : LegalList setup f) (
       let t = there_is sites_go.after.nodes c (omega arith) in
       (rest.nodes c t.0 y t.1 at).all
 
-  all_done : Comes list_rest (AreDone setup f sites_go.view rest.log (book_of setup rest.log) list_rest.bank)
+  all_done : Comes list_rest (AreDone setup f sites_go.view rest.log (outstanding_orders setup (book_of setup rest.log)) list_rest.bank)
   unfolding list_rest list_sites rest AreOrders
-  all_done = do_orders setup f some sites_go.view (book_of setup rest.log) list_rest rest.log rest.working calm_rest
-      (λ e c order in' is. filter_map-in (λ (g : Entry). order_by c g.client g.cmd g.reply) (book_of setup rest.log) e order in' is)
-      (let a = rest_all.pay_outs in let b = rest_all.grows in let d = room.1 in omega arith)
+  all_done = do_orders setup f some sites_go.view (outstanding_orders setup (book_of setup rest.log)) list_rest rest.log rest.working calm_rest
+      (λ due in'. (let o = is_outstanding setup (book_of setup rest.log) due in' in record { ccy = o.ccy; node = o.node; low = o.low; ordered = o.ordered }))
+      (let b = rest_all.grows in let d = room in omega (arith, b, d))
 
   list_done : LegalList setup f
   list_done = longer_list list_rest all_done.moves all_done.after all_done.run
@@ -289,13 +267,16 @@ module _ (setup : Setup) (f : ℕ) (some : 1 ≤ f) (list : LegalList setup f) (
   ended_there : (c : ℕ) (n : Node) (order : PaymentOrder) → slice_get all_done.after.nodes c ≡ Some n
       → Contains (orders (book_of setup all_done.holds.more) c) order → has_end (book_of setup all_done.holds.more) c order.out ≡ true
   unfolding list_done list_rest list_sites
-  ended_there c n order at in' =
-      let t =
-      filter_map-has (λ (e : Entry). order_by c e.client e.cmd e.reply) (book_of setup rest.log) order
-      (subst (λ (os : List PaymentOrder). Contains os order) (all_done.holds.ordered c) in') in
-      let a = (here setup f some list_done sites_go.view all_done.holds.more all_done.holds.working).count in
-      let low = slice_get_within all_done.after.nodes c n at in
-      all_done.holds.ended t.0 c order t.1 t.2 (omega arith)
+  ended_there c n order at in' = by (has_end (book_of setup rest.log) c order.out) refl
+    where
+      by : (b : Bool) → has_end (book_of setup rest.log) c order.out ≡ b → has_end (book_of setup all_done.holds.more) c order.out ≡ true
+      by true old = end_stays setup rest.log all_done.holds.more c order.out all_done.holds.longer old
+      by false open_still =
+          let a = (here setup f some list_done sites_go.view all_done.holds.more all_done.holds.working).count in
+          let low = slice_get_within all_done.after.nodes c n at in
+          all_done.holds.ended c order
+          (is_due setup (book_of setup rest.log) c order (omega (arith, a, low))
+          (subst (λ (os : List PaymentOrder). Contains os order) (all_done.holds.ordered c) in') open_still)
 
   -- an order that has its end is known to its node
   known_there : (c : ℕ) (n : Node) (out : ℕ) → slice_get all_done.after.nodes c ≡ Some n → has_end (book_of setup all_done.holds.more) c out ≡ true
@@ -343,11 +324,7 @@ module _ (setup : Setup) (f : ℕ) (some : 1 ≤ f) (list : LegalList setup f) (
   -- what was executed is in the log
   rest_room : length rest.log < MAX_ROWS
   unfolding rest list_sites
-  rest_room =
-      let a = rest_all.grows in
-      let d = room.1 in
-      let b = (here setup f some list_sites sites_go.view sites_go.log sites_go.work.working).people in
-      omega arith
+  rest_room = let a = rest_all.grows in let d = room in omega (arith, a, d)
 
   -- a moment of the list is one of the list as it goes on
   at_first : MomentOf list → Moment setup list.choose f list.cells list_rest.moves list_rest.bank

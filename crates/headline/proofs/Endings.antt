@@ -1,11 +1,10 @@
 -- A node's word on an order ends it in the book of any log that has the order before that word.
-use Rattle.std.proofs.Common.{◌≡◌, ◌⊎◌, inl, inr, ℕ, ◌+◌, ◌<◌, ◌≤◌, ◌==◌, Bool, true, false, not, nat_lt, nat_le, if◌then◌else◌, List, [], ◌∷◌, ◌++◌, length, Option, Some, None, refl, sym, ap, ◌∙◌, subst, arith, true≢false, eqb-true, append_assoc, length-append, count_by}
+use Rattle.std.proofs.Common.{◌≡◌, ◌⊎◌, inl, inr, ℕ, ◌+◌, ◌<◌, ◌≤◌, ◌==◌, Bool, true, false, not, nat_lt, nat_le, if◌then◌else◌, List, [], ◌∷◌, ◌++◌, length, zero, suc, Option, Some, None, refl, sym, ap, ◌∙◌, subst, arith, true≢false, eqb-true, append_assoc, length-append}
 use Rattle.std.specs.Prelude.{◌&&◌, ◌||◌, Contains}
 use Rattle.std.specs.List.{filter, list_any, cons_option, flat_map, range_with_len}
 use Rattle.std.proofs.lemmas.Bool.{and_parts, eq-eqb}
 use Rattle.std.proofs.lemmas.Bool.Decides.{nat_tests}
 use Rattle.std.proofs.lemmas.List.FromFn.{length-range_with_len, get_or-range_with_len}
-use Rattle.std.proofs.lemmas.List.Sums.{count_by-le-length}
 use Rattle.std.proofs.lemmas.List.Folds.{list_any-append, list_any_at}
 use Rattle.std.proofs.lemmas.List.Elements.{filter_map-append, Contains-append_left, Contains-append_right, Contains-append_cases}
 use Rattle.pvp_types.specs.declared.setup.Setup.{Setup}
@@ -19,13 +18,13 @@ use Rattle.vr_types.proofs.ChoosingPick.{Contains-here, Contains-there, Contains
 use Rattle.agreement.specs.Promises.{Begins}
 use Rattle.agreement.proofs.Beginnings.{append_begins}
 use Rattle.pvp_book.specs.declared.entry.Entry.{Entry}
-use Rattle.pvp_book.specs.Ledger.{Ledger, opening, node_of, outstanding_in, outstanding_orders}
+use Rattle.pvp_book.specs.Ledger.{node_of, outstanding_in, outstanding_from, outstanding_orders}
 use Rattle.pvp_book.specs.Orders.{order_by, orders, is_end, has_end}
-use Rattle.pvp_book.specs.Answer.{Row, answer_to, after, after_rows, pay_out_checks, is_member_number, answer, is_refusal, with_entry, on_end, has_member, has_currency, has_order, is_amount, book_of}
+use Rattle.pvp_book.specs.Answer.{Row, pay_out_checks, is_member_number, answer, is_refusal, with_entry, on_end, has_member, has_currency, has_order, is_amount, book_of}
 use Rattle.pvp_book.proofs.Checks.{passed, is-so}
-use Rattle.pvp_book.proofs.Counts.{count-cons, count-append}
 use Rattle.pvp_book.proofs.Reached.{begins, reached-more}
-use Rattle.headline.proofs.Basics.{none-some, some-same, map-in, filter_map-has}
+use Rattle.headline.specs.Progress.{open_in}
+use Rattle.headline.proofs.Basics.{none-some, some-same, map-in, map-has, map-length, filter-has, filter_map-has, flat_map-has}
 use Rattle.headline.proofs.Books.{ordered-more}
 use Rattle.headline.proofs.Entries.{IsAccepted, all-accepted}
 
@@ -232,38 +231,159 @@ is_due setup entries c order low in' open_still =
     (map-in (λ (o : PaymentOrder). (node_of c, o)) _ order
     (filter_keeps (λ (o : PaymentOrder). not (has_end entries c o.out)) (orders entries c) order in' (ap not open_still)))
 
--- HOW MANY ORDERS there can be
+-- and what is outstanding is an order of its currency
+pub record IsOutstanding (setup : Setup) (entries : List Entry) (due : ℕ × PaymentOrder) : Type 0 where
+  pub ccy : ℕ
+  pub node : due.0 ≡ node_of ccy
+  pub low : ccy < length setup.currencies
+  pub ordered : Contains (orders entries ccy) due.1
 
-abbrev pub is_pay_out : Cmd → Bool
+pub is_outstanding : (setup : Setup) (entries : List Entry) (due : ℕ × PaymentOrder) → Contains (outstanding_orders setup entries) due
+    → IsOutstanding setup entries due
+is_outstanding setup entries due in' =
+    let t = flat_map-has (outstanding_in entries) (range_with_len 0 (length setup.currencies)) due in' in
+    let o = map-has (λ (o : PaymentOrder). (node_of t.0, o)) _ due t.2 in
+    record {
+      ccy = t.0;
+      node = sym (ap (λ (d : ℕ × PaymentOrder). d.0) o.2);
+      low = in_range t.0 t.1;
+      ordered =
+          subst (λ (p : PaymentOrder). Contains (orders entries t.0) p) (ap (λ (d : ℕ × PaymentOrder). d.1) o.2)
+          (filter-has (λ (o : PaymentOrder). not (has_end entries t.0 o.out)) (orders entries t.0) o.0 o.1);
+    }
+  where
+    in_range : (c : ℕ) → Contains (range_with_len 0 (length setup.currencies)) c → c < length setup.currencies
+    in_range c (k, low, is) =
+        let many = length-range_with_len 0 (length setup.currencies) in
+        let at = get_or-range_with_len 0 (length setup.currencies) k c (omega (arith, low, many)) in
+        omega (arith, low, many, at, is)
+
+-- HOW MANY ORDERS can be open
+
+abbrev is_pay_out : Cmd → Bool
 is_pay_out (PayOut ccy amt) = true
 is_pay_out _ = false
 
--- a book's pay-outs
-abbrev pub pay_outs_in : List Entry → ℕ
-pay_outs_in entries = count_by (λ e. is_pay_out e.cmd) entries
+not_pay_out : (c client : ℕ) (cmd : Cmd) (reply : Reply) → is_pay_out cmd ≡ false → order_by c client cmd reply ≡ None
+not_pay_out c client (PayOut ccy amt) reply e = absurd (true≢false e)
+not_pay_out c client _ reply e = refl
 
-pub made_by_pay_out : (c client : ℕ) (cmd : Cmd) (reply : Reply) (order : PaymentOrder) → order_by c client cmd reply ≡ Some order → is_pay_out cmd ≡ true
-made_by_pay_out c client (PayOut ccy amt) reply order e = refl
-made_by_pay_out c client _ reply order e = absurd (none-some order e)
-
-few_entries : (held : Ledger) (rows : List Row) → length (after_rows held rows).entries ≤ length held.entries + length rows
-few_entries held [] = omega arith
-few_entries held (row ∷ rows) =
-    let rest = few_entries (after held row.client row.cmd) rows in
-    let one = by (is_refusal (answer_to held row.client row.cmd)) in
-    omega arith
+-- what a stricter test leaves is no more, but for what is new
+filter_less : {A : Type 0} (strict test : A → Bool) (xs ys : List A) → ((x : A) → strict x ≡ true → test x ≡ true)
+    → length (filter strict (xs ++ ys)) ≤ length (filter test xs) + length ys
+filter_less strict test [] [] only = omega arith
+filter_less {A} strict test [] (y ∷ ys) only = by (strict y) (filter_less strict test [] ys only)
   where
-    by : (refused : Bool)
-        → length (if refused then held.entries else held.entries ++ record { client = row.client; cmd = row.cmd; reply = answer_to held row.client row.cmd }
-        ∷ []) ≤ length held.entries + 1
-    by true = omega arith
-    by false = let l = length-append held.entries (record { client = row.client; cmd = row.cmd; reply = answer_to held row.client row.cmd } ∷ []) in omega arith
+    by : (b : Bool) → length (filter strict ys) ≤ 0 + length ys → length (if b then y ∷ filter strict ys else filter strict ys) ≤ 0 + length (y ∷ ys)
+    by true low = omega (arith, low)
+    by false low = omega (arith, low)
+filter_less {A} strict test (x ∷ xs) ys only = by (strict x) (test x) (only x) (filter_less strict test xs ys only)
+  where
+    by : (s t : Bool) → (s ≡ true → t ≡ true) → length (filter strict (xs ++ ys)) ≤ length (filter test xs) + length ys
+        → length (if s then x ∷ filter strict (xs ++ ys) else filter strict (xs ++ ys)) ≤ length (if t then x ∷ filter test xs else filter test xs) + length ys
+    by true true only low = omega (arith, low)
+    by true false only low = absurd (true≢false (sym (only refl)))
+    by false true only low = omega (arith, low)
+    by false false only low = omega (arith, low)
 
-pub few_pay_outs : (setup : Setup) (rows : List Row) → pay_outs_in (book_of setup rows) ≤ length rows
-few_pay_outs setup rows =
-    let a = few_entries (opening setup) rows in
-    let b = count_by-le-length (λ (e : Entry). is_pay_out e.cmd) (book_of setup rows) in
-    omega arith
+abbrev some_length : {A : Type 0} → Option A → ℕ
+some_length o = length (cons_option o [])
+
+-- one entry more
+module _ (entries : List Entry) (e : Entry) where
+  abbrev longer : List Entry
+  longer = entries ++ e ∷ []
+
+  abbrev made : ℕ → Option PaymentOrder
+  made c = order_by c e.client e.cmd e.reply
+
+  still_open : (c : ℕ) (o : PaymentOrder) → not (has_end longer c o.out) ≡ true → not (has_end entries c o.out) ≡ true
+  still_open c o is =
+      by (has_end entries c o.out) (list_any (λ (d : Entry). is_end c o.out d.cmd) (e ∷ []))
+      (ap not (sym (list_any-append (λ (d : Entry). is_end c o.out d.cmd) entries (e ∷ []))) ∙ is)
+    where
+      by : (a b : Bool) → not (a || b) ≡ true → not a ≡ true
+      by true b h = h
+      by false b h = refl
+
+  in_currency : (c : ℕ) → length (outstanding_in longer c) ≤ length (outstanding_in entries c) + some_length (made c)
+  in_currency c =
+      let grown : orders longer c ≡ orders entries c ++ cons_option (made c) [] =
+      filter_map-append (λ (d : Entry). order_by c d.client d.cmd d.reply) entries (e ∷ []) in
+      let less =
+      filter_less (λ (o : PaymentOrder). not (has_end longer c o.out)) (λ (o : PaymentOrder). not (has_end entries c o.out)) (orders entries c)
+      (cons_option (made c) []) (still_open c) in
+      let same = ap (λ (os : List PaymentOrder). length (filter (λ (o : PaymentOrder). not (has_end longer c o.out)) os)) grown in
+      let a =
+      map-length {B = ℕ × PaymentOrder} (λ (o : PaymentOrder). (node_of c, o))
+      (filter (λ (o : PaymentOrder). not (has_end longer c o.out)) (orders longer c)) in
+      let b =
+      map-length {B = ℕ × PaymentOrder} (λ (o : PaymentOrder). (node_of c, o))
+      (filter (λ (o : PaymentOrder). not (has_end entries c o.out)) (orders entries c)) in
+      omega (arith, less, same, a, b)
+
+  -- of currencies in which it orders nothing
+  no_more_from : (n c : ℕ) → ((d : ℕ) → c ≤ d → made d ≡ None) → length (outstanding_from c n longer) ≤ length (outstanding_from c n entries)
+  no_more_from zero c none = omega arith
+  no_more_from (suc n) c none =
+      let here = in_currency c in
+      let nothing = ap some_length (none c (omega arith)) in
+      let rest = no_more_from n (c + 1) (λ d low. none d (omega (arith, low))) in
+      let a = length-append (outstanding_in longer c) (outstanding_from (c + 1) n longer) in
+      let b = length-append (outstanding_in entries c) (outstanding_from (c + 1) n entries) in
+      omega (arith, here, nothing, rest, a, b)
+
+  -- it orders in one currency at the most
+  one_more_from : (n c : ℕ) → length (outstanding_from c n longer) ≤ length (outstanding_from c n entries) + 1
+  one_more_from zero c = omega arith
+  one_more_from (suc n) c = by (made c) refl (one_more_from n (c + 1))
+    where
+      by : (o : Option PaymentOrder) → made c ≡ o
+          → length (outstanding_from (c + 1) n longer) ≤ length (outstanding_from (c + 1) n entries) + 1
+          → length (outstanding_from c (suc n) longer) ≤ length (outstanding_from c (suc n) entries) + 1
+      by None is rest =
+          let here = in_currency c in
+          let nothing = ap some_length is in
+          let a = length-append (outstanding_in longer c) (outstanding_from (c + 1) n longer) in
+          let b = length-append (outstanding_in entries c) (outstanding_from (c + 1) n entries) in
+          omega (arith, here, nothing, rest, a, b)
+      by (Some order) is unused =
+          let here = in_currency c in
+          let one = ap some_length is in
+          let rest = no_more_from n (c + 1) (λ d low. elsewhere d low (made d) refl) in
+          let a = length-append (outstanding_in longer c) (outstanding_from (c + 1) n longer) in
+          let b = length-append (outstanding_in entries c) (outstanding_from (c + 1) n entries) in
+          omega (arith, here, one, rest, a, b)
+        where
+          elsewhere : (d : ℕ) → c + 1 ≤ d → (o : Option PaymentOrder) → made d ≡ o → made d ≡ None
+          elsewhere d low None at = at
+          elsewhere d low (Some other) at =
+              let p = made_in c e.client e.cmd e.reply order is in
+              let q = made_in d e.client e.cmd e.reply other at in
+              absurd (omega (arith, p, q, low))
+
+-- a row opens one order at the most
+pub one_more_open : (setup : Setup) (rows : List Row) (row : Row) → open_in setup (rows ++ row ∷ []) ≤ open_in setup rows + 1
+one_more_open setup rows row =
+    let same = ap (λ (es : List Entry). length (outstanding_orders setup es)) (reached-more setup rows row) in
+    let step = by (is_refusal (answer setup (book_of setup rows) row.client row.cmd)) in
+    omega (arith, same, step)
+  where
+    new : Entry
+    new = record { client = row.client; cmd = row.cmd; reply = answer setup (book_of setup rows) row.client row.cmd }
+
+    by : (refused : Bool) → length (outstanding_orders setup (if refused then book_of setup rows else book_of setup rows ++ new ∷ [])) ≤ open_in setup rows + 1
+    by true = omega arith
+    by false = one_more_from (book_of setup rows) new (length setup.currencies) 0
+
+-- many rows open no more orders than they are
+pub more_open : (setup : Setup) (rows more : List Row) → open_in setup (rows ++ more) ≤ open_in setup rows + length more
+more_open setup rows [] = let same = ap (open_in setup) (append_none rows) in omega (arith, same)
+more_open setup rows (row ∷ more) =
+    let rest = more_open setup (rows ++ row ∷ []) more in
+    let one = one_more_open setup rows row in
+    let same = ap (open_in setup) (append_assoc rows (row ∷ []) more) in
+    omega (arith, rest, one, same)
 
 not_member : (c : ℕ) → is_member_number (node_of c) ≡ false
 not_member c = by (nat_le 1 (101 + c)) (nat_le (101 + c) 64) (above (101 + c) 64 (omega arith))
@@ -275,7 +395,7 @@ not_member c = by (nat_le 1 (101 + c)) (nat_le (101 + c) 64) (above (101 + c) 64
     by true b e = e
     by false b e = refl
 
--- a node makes none
+-- a node orders nothing
 node_refused : (setup : Setup) (entries : List Entry) (client : ℕ) (cmd : Cmd) → is_member_number client ≡ false
     → is_refusal (answer setup entries client cmd) ≡ false → is_pay_out cmd ≡ false
 unfolding answer
@@ -284,31 +404,20 @@ node_refused setup entries client (PayOut ccy amt) none ok =
     absurd (true≢false (sym (is-so _ t.0) ∙ none))
 node_refused setup entries client _ none ok = refl
 
-pub node_makes_none : (setup : Setup) (rows : List Row) (row : Row) (c : ℕ) → row.client ≡ node_of c
-    → pay_outs_in (book_of setup (rows ++ row ∷ [])) ≡ pay_outs_in (book_of setup rows)
-node_makes_none setup rows row c from =
-    ap pay_outs_in (reached-more setup rows row) ∙ by (is_refusal (answer setup (book_of setup rows) row.client row.cmd)) refl
+-- and so its rows open none
+pub node_opens_none : (setup : Setup) (rows : List Row) (row : Row) (c : ℕ) → row.client ≡ node_of c
+    → open_in setup (rows ++ row ∷ []) ≤ open_in setup rows
+node_opens_none setup rows row c from =
+    let same = ap (λ (es : List Entry). length (outstanding_orders setup es)) (reached-more setup rows row) in
+    let step = by (is_refusal (answer setup (book_of setup rows) row.client row.cmd)) refl in
+    omega (arith, same, step)
   where
     new : Entry
     new = record { client = row.client; cmd = row.cmd; reply = answer setup (book_of setup rows) row.client row.cmd }
 
     by : (refused : Bool) → is_refusal (answer setup (book_of setup rows) row.client row.cmd) ≡ refused
-        → pay_outs_in (if refused then book_of setup rows else book_of setup rows ++ record {
-          client = row.client;
-          cmd = row.cmd;
-          reply = answer setup (book_of setup rows) row.client row.cmd;
-        } ∷ []) ≡ pay_outs_in (book_of setup rows)
-    by true is = refl
+        → length (outstanding_orders setup (if refused then book_of setup rows else book_of setup rows ++ new ∷ [])) ≤ open_in setup rows
+    by true is = omega arith
     by false is =
         let none = node_refused setup (book_of setup rows) row.client row.cmd (ap is_member_number from ∙ not_member c) is in
-        let a =
-        count-append (λ (e : Entry). is_pay_out e.cmd) (book_of setup rows)
-        (record { client = row.client; cmd = row.cmd; reply = answer setup (book_of setup rows) row.client row.cmd } ∷ []) in
-        let b : count_by (λ (e : Entry). is_pay_out e.cmd)
-        (record { client = row.client; cmd = row.cmd; reply = answer setup (book_of setup rows) row.client row.cmd } ∷ []) ≡ 0 =
-        count-cons (λ (e : Entry). is_pay_out e.cmd) (record {
-          client = row.client;
-          cmd = row.cmd;
-          reply = answer setup (book_of setup rows) row.client row.cmd;
-        }) [] ∙ ap (λ (t : Bool). (if t then 1 else 0) + 0) none in
-        omega arith
+        no_more_from (book_of setup rows) new (length setup.currencies) 0 (λ d low. not_pay_out d new.client new.cmd new.reply none)

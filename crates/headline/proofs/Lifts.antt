@@ -54,10 +54,6 @@ not_zero n = by (n + 1 == 0) refl
     by true e = absurd (let d : n + 1 ≡ 0 = eq_is (n + 1) 0 e in omega arith)
     by false e = refl
 
-if_true : {A : Type 0} (b : Bool) (x y : A) → b ≡ true → (if b then x else y) ≡ x
-if_true true x y e = refl
-if_true false x y e = absurd (true≢false (sym e))
-
 module _ (setup : Setup) (choose : Choice Cmd) (f : ℕ) where
   -- the sites of the world are the bank's, and what they sent is in the post
   pub record Beside (world : SitesWorld) (bank : Bank) : Type 0 where

@@ -41,7 +41,7 @@ module _ (setup : Setup) (f : ℕ) (some : 1 ≤ f) (list : LegalList setup f) w
   beside : Beside setup list.choose f here.world list.bank
   beside = record { sites = here.sites; back = here.back; told = here.told }
 
-  module _ (can : CanGoOn f list.bank) where
+  module _ (can : CanGoOn setup f list.bank) where
     goes : sites_alone.Progresses (record {
       choose = list.choose;
       right = list.right;
@@ -72,7 +72,7 @@ module _ (setup : Setup) (f : ℕ) (some : 1 ≤ f) (list : LegalList setup f) w
     had = subst (HadLog goes.log) here.sites goes.had
 
     room : length goes.log < MAX_ROWS
-    room = let space = can.space had.0 had.1 in let same = ap (length {A = Row}) had.2 in let people = here.people in omega arith
+    room = let space = can.space had.0 had.1 in let same = ap (length {A = Row}) had.2 in omega (arith, space, same)
 
     -- the log is all that was ever executed
     kept : KeepsExecuted list goes.log

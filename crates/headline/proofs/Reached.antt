@@ -1,6 +1,6 @@
 -- The invariant holds of every bank that a legal list leads to, and the history only grows.
-use Rattle.std.proofs.Common.{◌≡◌, inr, ℕ, suc, ◌+◌, ◌-◌, ◌*◌, ◌≤◌, ◌==◌, Bool, true, false, nat_le, if◌then◌else◌, List, [], ◌∷◌, ◌++◌, length, map, slice_get, Option, Some, None, option_map, refl, sym, ap, subst, append_assoc, append-nil, arith}
-use Rattle.std.specs.Prelude.{Contains, ⊤}
+use Rattle.std.proofs.Common.{◌≡◌, inr, ℕ, suc, ◌+◌, ◌-◌, ◌*◌, ◌≤◌, ◌==◌, Bool, true, false, if◌then◌else◌, List, [], ◌∷◌, ◌++◌, length, map, slice_get, Option, Some, None, option_map, refl, sym, ap, subst, append_assoc, append-nil, arith}
+use Rattle.std.specs.Prelude.{Contains}
 use Rattle.pvp_types.specs.declared.setup.Setup.{Setup}
 use Rattle.pvp_types.specs.declared.command.Cmd.{Cmd}
 use Rattle.pvp_types.specs.declared.step.Step.{Step}
@@ -25,22 +25,19 @@ use Rattle.vr_types.specs.declared.actors.ActorId.{ActorId}
 use Rattle.vr_types.specs.declared.actors.ActorId.TheVariants as actor_id
 use Rattle.headline.specs.Bank.{Bank, opening_bank, turn_at, turn_of, delivery, turn}
 use Rattle.headline.specs.Legal.{Acts, FallsBy, Leads, IsRun}
-use Rattle.headline.proofs.Basics.{none-some, some-same, there, map-has}
+use Rattle.headline.proofs.Basics.{none-some, some-same, there, map-has, map-length}
 use Rattle.agreement.proofs.Beginnings.{begins_itself, begins-trans}
 use Rattle.headline.proofs.Invariant.{IsSoundNode, Holds, HoldsOn}
 use Rattle.headline.proofs.Runs.{runs-join}
 use Rattle.headline.proofs.SiteTurn.{site_steps, site_falls}
 use Rattle.headline.proofs.NodeTurn.{node_steps}
 use Rattle.headline.proofs.ClientTurn.{client_steps}
+use Rattle.headline.proofs.Turns.{client_number}
 
 -- THE OPENING
 
 none : {A : Type 0} (x : A) → Contains [] x → ⊥
 none x in' = let low = in'.1 in omega arith
-
-map-length : {A B : Type 0} (h : A → B) (xs : List A) → length (map h xs) ≡ length xs
-map-length h [] = refl
-map-length h (x ∷ xs) = ap (λ n. suc n) (map-length h xs)
 
 opening-sound : (c : ℕ) → IsSoundNode c opening_node
 opening-sound c = record {
@@ -90,15 +87,15 @@ module _ (setup : Setup) (choose : Choice Cmd) (f : ℕ) (cells : List Boot) (al
 abbrev pub Carries : List Envelope → Turn → Type 0
 Carries post (OfSite i event) = (e : Envelope) → event ≡ Deliver e → Contains post e
 Carries post (OfNode c event) = (e : Envelope) → event ≡ node.Takes e → Contains post e
-Carries post (OfClient k event) = ⊤
+Carries post (OfClient k event) = (e : Envelope) → event ≡ client.Takes e → Contains post e × (e.to ≡ k)
 
 delivery-carries : (post : List Envelope) (d : Envelope) → Contains post d → Carries post (delivery d)
-delivery-carries post d in' = by (id_of d.to)
+delivery-carries post d in' = by (id_of d.to) refl
   where
-    by : (id : ActorId) → Carries post (turn_at id (Deliver d) (node.Takes d) (client.Takes d))
-    by (actor_id.Site i) = λ e same. subst (λ (x : Envelope). Contains post x) (cc) in'
-    by (actor_id.Node c) = λ e same. subst (λ (x : Envelope). Contains post x) (cc) in'
-    by (actor_id.Client k) = tt
+    by : (id : ActorId) → id_of d.to ≡ id → Carries post (turn_at id (Deliver d) (node.Takes d) (client.Takes d))
+    by (actor_id.Site i) is = λ e same. subst (λ (x : Envelope). Contains post x) (cc) in'
+    by (actor_id.Node c) is = λ e same. subst (λ (x : Envelope). Contains post x) (cc) in'
+    by (actor_id.Client k) is = λ e same. subst (λ (x : Envelope). Contains post x × (x.to ≡ k)) (cc) (in', client_number d.to k is)
 
 beat-carries : (post : List Envelope) (actor : ℕ) → Carries post (turn_of actor Beat node.Beats client.Beats)
 beat-carries post actor = by (id_of actor)
@@ -106,7 +103,7 @@ beat-carries post actor = by (id_of actor)
     by : (id : ActorId) → Carries post (turn_at id Beat node.Beats client.Beats)
     by (actor_id.Site i) = λ e same. absurd (cc)
     by (actor_id.Node c) = λ e same. absurd (cc)
-    by (actor_id.Client k) = tt
+    by (actor_id.Client k) = λ e same. absurd (cc)
 
 pub carries : (post : List Envelope) (step : Step) (t : Turn) → turn post step ≡ Some t → Carries post t
 carries post (Delivers number) t is = by (number == 0) (slice_get post (number - 1)) refl is
@@ -118,7 +115,7 @@ carries post (Delivers number) t is = by (number == 0) (slice_get post (number -
     by false (Some d) at e = subst (λ (u : Turn). Carries post u) (some-same (delivery d) t e) (delivery-carries post d (there post (number - 1) d at))
 carries post (PaysIn ccy member amt) t is = subst (λ (u : Turn). Carries post u) (some-same _ t is) (λ e same. absurd (cc))
 carries post (Closes ccy member) t is = subst (λ (u : Turn). Carries post u) (some-same _ t is) (λ e same. absurd (cc))
-carries post (Submits number cmd) t is = subst (λ (u : Turn). Carries post u) (some-same _ t is) tt
+carries post (Submits number cmd) t is = subst (λ (u : Turn). Carries post u) (some-same _ t is) (λ e same. absurd (cc))
 carries post (Beats actor) t is = subst (λ (u : Turn). Carries post u) (some-same _ t is) (beat-carries post actor)
 carries post (Times site) t is = subst (λ (u : Turn). Carries post u) (some-same _ t is) (λ e same. absurd (cc))
 carries post (Crashes site) t is = subst (λ (u : Turn). Carries post u) (some-same _ t is) (λ e same. absurd (cc))

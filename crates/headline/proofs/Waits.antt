@@ -1,5 +1,5 @@
 -- One client's request, or one node's notice, is answered.
-use Rattle.std.proofs.Common.{◌≡◌, ◌≢◌, ◌⊎◌, ℕ, zero, suc, ◌+◌, ◌-◌, ◌<◌, ◌≤◌, Bool, true, false, not, ◌&&◌, ◌||◌, ◌==◌, nat_le, nat_lt, if◌then◌else◌, List, [], ◌∷◌, ◌++◌, length, slice_get, slice_set, Option, Some, None, option_map, refl, sym, ap, ◌∙◌, subst, arith, true≢false}
+use Rattle.std.proofs.Common.{◌≡◌, ◌≢◌, ◌⊎◌, inl, inr, ℕ, zero, suc, ◌+◌, ◌-◌, ◌<◌, ◌≤◌, Bool, true, false, not, ◌&&◌, ◌||◌, ◌==◌, nat_le, nat_lt, if◌then◌else◌, List, [], ◌∷◌, ◌++◌, length, slice_get, slice_set, Option, Some, None, option_map, refl, sym, ap, ◌∙◌, subst, arith, true≢false}
 use Rattle.std.specs.Prelude.{Contains}
 use Rattle.std.specs.Option.{option_map_or}
 use Rattle.std.proofs.lemmas.Bool.Decides.{nat_tests}
@@ -102,7 +102,8 @@ to_primary f c view number cmd =
 -- it was answered, and nothing else of clients and nodes has changed
 pub record IsIdle (f view k : ℕ) (log : List Row) (x : Client) (before after : Bank) : Type 0 where
   pub more : List Row
-  pub grows : length more ≤ length log + 1
+  pub row : Row
+  pub rows : (more ≡ log) ⊎ (more ≡ log ++ row ∷ [])
   pub working : AreWorking f view more after.sites
   pub runs : (i : ℕ) → runs_at before.sites i ≡ true → runs_at after.sites i ≡ true
   pub answer : Answer
@@ -226,7 +227,8 @@ module _ (setup : Setup) (f : ℕ) (some : 1 ≤ f) (list : LegalList setup f) (
           gentle = All-cons IsGentle (Takes (Delivers number.number)) [] tt (All-nil IsGentle);
           holds = record {
             more = told.holds.more;
-            grows = told.holds.grows;
+            row = row;
+            rows = told_rows told.holds.rows;
             runs = λ i e. told.holds.runs i e;
             working = record { many = told.holds.working.many; leads = told.holds.working.leads; each = told.holds.working.each };
             answer = told.holds.is.answer;
@@ -237,6 +239,10 @@ module _ (setup : Setup) (f : ℕ) (some : 1 ≤ f) (list : LegalList setup f) (
             nodes = told.holds.nodes;
           };
         }))
+      where
+        told_rows : {P : Type 0} {more : List Row} → ((more ≡ log) × P) ⊎ (more ≡ log ++ row ∷ []) → (more ≡ log) ⊎ (more ≡ log ++ row ∷ [])
+        told_rows (inl old) = inl old.0
+        told_rows (inr new) = inr new
 
   module _ (c : ℕ) (x : Node) (cmd : Cmd) (at : slice_get list.bank.nodes c ≡ Some x) (is_out : slice_get x.notices x.answered ≡ Some cmd) where
     abbrev notice : Row

@@ -1,10 +1,10 @@
 -- A legal list, computed: a member pays in, asks for a payment, and the node makes it.
-use Rattle.std.proofs.Common.{◌≡◌, ℕ, Bool, true, false, if◌then◌else◌, IsTrue, ◌↔◌, List, [], ◌∷◌, ◌++◌, map, length, slice_get, Option, Some, None, codes, refl, sym, arith, ℤ, pos}
+use Rattle.std.proofs.Common.{◌≡◌, ℕ, Bool, true, false, if◌then◌else◌, IsTrue, ◌↔◌, List, [], ◌∷◌, ◌++◌, map, length, slice_get, Option, Some, None, codes, refl, sym, arith, ℤ, pos, ◌-ℤ◌}
 use Rattle.std.specs.List.{range_with_len}
 use Rattle.pvp_types.specs.declared.setup.Setup.{Setup}
 use Rattle.pvp_types.specs.declared.setup.Member.{Member}
 use Rattle.pvp_types.specs.declared.command.Cmd.{Cmd}
-use Rattle.pvp_types.specs.declared.command.Cmd.TheVariants.{PayOut}
+use Rattle.pvp_types.specs.declared.command.Cmd.TheVariants.{PayOut, Fund, Returned}
 use Rattle.pvp_types.specs.declared.command.Reply.{Reply as Answer}
 use Rattle.pvp_types.specs.declared.command.PayOrder.{PayOrder as PaymentOrder}
 use Rattle.pvp_types.specs.declared.step.Step.{Step}
@@ -24,7 +24,10 @@ use Rattle.pvp_book.specs.Ledger.{opening, figure}
 use Rattle.pvp_book.specs.Answer.{answer}
 use Rattle.headline.specs.Machine.{book}
 use Rattle.rtgs_node.specs.declared.event.NodeEvent.{NodeEvent}
-use Rattle.rtgs_node.specs.Node.{Node, account, node_step}
+use Rattle.rtgs_node.specs.Node.{Node, account, node_step, opening_node}
+use Rattle.pvp_book.specs.declared.entry.Entry.{Entry}
+use Rattle.pvp_types.specs.declared.command.Reply.TheVariants.{Done, Order}
+use Rattle.headline.specs.Way.{way}
 use Rattle.headline.specs.declared.step.ClientEvent.{ClientEvent}
 use Rattle.headline.specs.Client.{Client, client_step}
 use Rattle.headline.specs.declared.step.Move.TheVariants.{Takes}
@@ -32,7 +35,6 @@ use Rattle.headline.specs.declared.step.Turn.{Turn}
 use Rattle.headline.specs.declared.step.Turn.TheVariants.{OfSite, OfNode, OfClient}
 use Rattle.headline.specs.Bank.{Bank, opening_bank, turn, with_site, with_node, with_client}
 use Rattle.headline.specs.Legal.{Acts, IsRun, LegalList}
-use Rattle.headline.specs.Way.{way}
 use Rattle.headline.specs.Headline.{executed_book}
 use Rattle.headline.proofs.Basics.{none-some, some-same}
 
@@ -220,3 +222,51 @@ module _ (same : Cmd → Cmd → Bool) (tells : (a b : Cmd) → IsTrue (same a b
     bank = end;
     legal = record { all = refl; run = plays-sound worked choose 1 (opening_bank worked 1 cells) second end is };
   }
+
+-- THE WAY IS A SUM OF PAYMENTS, and not what account and figure differ by. That the two are equal is the headline's, of legal
+-- lists; no such list has a book that was told of a pay-in which its node never took.
+
+-- a pay-in of 5, and what its node says of it
+abbrev untold : Node
+untold = record opening_node { pay_ins = record { member = 1; amt = 5 } ∷ [] }
+
+abbrev told : Entry
+told = record { client = 101; cmd = Fund 0 1 1 5; reply = Done }
+
+not_told_yet : way 0 untold [] ≡ pos 5
+not_told_yet = refl
+
+credited_there : way 0 untold (told ∷ []) ≡ pos 0
+credited_there = refl
+
+never_taken : way 0 opening_node (told ∷ []) ≡ pos 0
+never_taken = refl
+
+its_figure : figure worked (told ∷ []) 0 ≡ pos 5
+unfolding worked settled_pairs settled_after taken_by
+its_figure = refl
+
+-- an order of 5, what its node says of it where it cannot pay, and a node that paid it
+abbrev ordered : Entry
+ordered = record { client = 1; cmd = PayOut 0 5; reply = Order 1 }
+
+abbrev given_back : Entry
+given_back = record { client = 101; cmd = Returned 0 1; reply = Done }
+
+abbrev did : Node
+did = record opening_node { pay_outs = record { ccy = 0; out = 1; member = 1; amt = 5 } ∷ [] }
+
+not_done_yet : way 0 opening_node (ordered ∷ []) ≡ pos 5
+not_done_yet = refl
+
+done_there : way 0 did (ordered ∷ []) ≡ pos 0
+done_there = refl
+
+not_ordered_yet : way 0 did [] ≡ pos 0 -ℤ pos 5
+not_ordered_yet = refl
+
+returned_there : way 0 opening_node (ordered ∷ given_back ∷ []) ≡ pos 0
+returned_there = refl
+
+done_and_returned : way 0 did (ordered ∷ given_back ∷ []) ≡ pos 0
+done_and_returned = refl

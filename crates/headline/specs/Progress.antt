@@ -1,6 +1,7 @@
--- NO DEAD END: where f+1 sites run, the bank can go on, without a crash and without new business, until each client's
--- request and each node's notice is answered, and each order is done or returned at its node and reported to the book.
-use Rattle.std.specs.Prelude.{◌≡◌, ℕ, ◌+◌, ◌-◌, ◌*◌, ◌<◌, ◌≤◌, true, List, [], ◌∷◌, ◌++◌, length, slice_get, All, Contains, Some, None, sum_by, IsSome, ⊤}
+-- NO DEAD END: where f+1 sites run, no view number is near the last and logs have room for what is open, the bank can
+-- go on, without a crash and without new business, until each client's request and each node's notice is answered, and
+-- each order is done or returned at its node and reported to the book.
+use Rattle.std.specs.Prelude.{◌≡◌, ℕ, ◌+◌, ◌-◌, ◌*◌, ◌<◌, true, List, [], ◌∷◌, ◌++◌, length, slice_get, All, Contains, Some, None, count_by, sum_by, is_some, IsSome, ⊤}
 use Rattle.pvp_types.specs.declared.setup.Setup.{Setup}
 use Rattle.pvp_types.specs.declared.command.Cmd.{Cmd}
 use Rattle.pvp_types.specs.declared.command.PayOrder.{PayOrder as PaymentOrder}
@@ -15,7 +16,7 @@ use Rattle.agreement.specs.Progress.{CanGoOn as SitesCanGoOn, RunOn, AreWorking,
 use Rattle.pvp_book.specs.declared.entry.Entry.{Entry}
 use Rattle.pvp_book.specs.Answer.{Row, book_of}
 use Rattle.pvp_book.specs.Orders.{orders, has_end}
-use Rattle.pvp_book.specs.Ledger.{opening, figure, has_pay_in}
+use Rattle.pvp_book.specs.Ledger.{opening, figure, has_pay_in, outstanding_orders}
 use Rattle.rtgs_node.specs.Node.{Envelope, Node, account, is_known}
 use Rattle.headline.specs.declared.step.Move.{Move}
 use Rattle.headline.specs.declared.step.Move.TheVariants.{Takes, Falls}
@@ -40,16 +41,30 @@ abbrev pub IsGentle : Move → Type 0
 IsGentle (Takes step) = IsGentleStep step
 IsGentle (Falls step cell) = ⊥
 
+-- how many clients wait for an answer
+abbrev pub waiting_count : Bank → ℕ
+waiting_count bank = count_by (λ client. is_some client.waiting) bank.clients
+
 -- how many notices of nodes are not answered
 abbrev pub unanswered_count : Bank → ℕ
 unanswered_count bank = sum_by (λ n. length n.notices - n.answered) bank.nodes
 
--- The sites can go on, and each log has room for a request of each client, for each notice that is not answered, and
--- for one notice for each row that may be an order.
-pub record CanGoOn (f : ℕ) (bank : Bank) : Type 0 where
+-- how many orders of a log's book are open
+abbrev pub open_in : Setup → List Row → ℕ
+open_in setup log = length (outstanding_orders setup (book_of setup log))
+
+-- How many orders may be open in a site's log: those of the book of its executed rows, and one for each other row.
+abbrev pub may_be_open : Setup → Site Cmd → ℕ
+may_be_open setup x =
+    let executed = executed_rows x in open_in setup executed + (length x.log - length executed)
+
+-- The sites can go on, and each log has room for what is open: for two rows for each client that waits, its request and
+-- the end of an order that this may be, for one for each notice that is not answered and for each open order; and one
+-- more.
+pub record CanGoOn (setup : Setup) (f : ℕ) (bank : Bank) : Type 0 where
   pub sites : SitesCanGoOn f bank.sites
   pub space : (x : Site Cmd) → Contains bank.sites x
-      → 2 * (length x.log + length bank.clients) + unanswered_count bank ≤ MAX_ROWS
+      → length x.log + may_be_open setup x + 2 * waiting_count bank + unanswered_count bank < MAX_ROWS
 
 -- Nothing is on the way between a node and a book: each pay-in is credited, each pay-out is an order of the book, and
 -- the three amounts that are on the way are 0; so the account is the figure.

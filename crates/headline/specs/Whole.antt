@@ -4,7 +4,7 @@ use Rattle.std.specs.Prelude.{ℕ}
 use Rattle.pvp_types.specs.declared.setup.Setup.{Setup}
 use Rattle.headline.specs.Legal.{LegalList, Continued}
 use Rattle.headline.specs.Headline.{RowsAgree, BooksAgree, PairsAreWhole, FiguresAreCovered, CreditedOnce, CreditsWerePaidIn, DoneOnce, DoneWereOrdered, PaidAreDone, EndedOnce, ReturnsAreReturned, DoneOrReturned, AccountsMatch, OrdersAreCovered, NeverShort}
-use Rattle.headline.specs.Replies.{LogsRise, AnsweredWereExecuted, AnswersAgree, AnswersAreRight, AnsweredRowsStay}
+use Rattle.headline.specs.Replies.{LogsRise, AnsweredWereExecuted, AnswersAgree, AnswersAreRight, AnsweredRowsStay, AnswersWereTold, RowsWereSubmitted, RequestsAreCounted}
 
 pub record Headline {setup : Setup} {f : ℕ} (early : LegalList setup f) (late : Continued early) : Type 0 where
   -- any two sites that ever executed command n executed the same one and held equal books there
@@ -27,9 +27,13 @@ pub record Headline {setup : Setup} {f : ℕ} (early : LegalList setup f) (late 
   -- no node is ever short
   pub covered : OrdersAreCovered setup early.bank late.bank
   pub never_short : NeverShort setup f early.bank
-  -- the answers to clients agree, are right and last
+  -- the answers to clients agree, are right and last, and a client has no other
   pub rise : LogsRise early.bank
   pub executed : AnsweredWereExecuted early
   pub one_answer : AnswersAgree early.bank
   pub right_answer : AnswersAreRight setup early.bank late.bank
   pub stay : AnsweredRowsStay early late
+  pub told : AnswersWereTold early.bank
+  -- and each row of a client is what it submitted under that number
+  pub submitted : RowsWereSubmitted early
+  pub counted : RequestsAreCounted early

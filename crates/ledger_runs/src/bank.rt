@@ -2,6 +2,8 @@
 //! else several sites do is tested by plays of the built program.
 
 mod book;
+mod falls;
 mod nodes;
 mod one_site;
+mod ways;
 mod world;

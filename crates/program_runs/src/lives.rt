@@ -4,8 +4,8 @@ ghost use Rattle.std.specs.Prelude.{◌≡◌, length, IfOk};
 
 use crate::files::{SETUP, ends};
 use fixtures::{Filed, Fresh};
-use pvp_judge::Judgement;
-use pvp_live::{Lived, Refused, live, print_judgement, print_script};
+use pvp_audit::Verdict;
+use pvp_live::{Lived, Refused, live, print_script, print_verdict};
 use pvp_play::play;
 use pvp_text::book::read_lines;
 use pvp_text::read_setup;
@@ -119,16 +119,16 @@ where
     R::Stream: Read + Write + Send + Drop,
 {
     let lived = ran::<R, C, _>(rt, script, &mut sink())?;
-    is_played_again(rt, &lived.judgement)
+    is_played_again(rt, &lived.verdict)
 }
 
 /// The script as which a run is printed leaves the books that the run left.
-fn is_played_again<R: Abort + AllocGlobal>(rt: &R, judgement: &Judgement) -> Result<(), Fail> {
+fn is_played_again<R: Abort + AllocGlobal>(rt: &R, verdict: &Verdict) -> Result<(), Fail> {
     let alloc = rt.alloc();
     let mut books: Vec<u8> = Vec::new(alloc);
     let mut script: Vec<u8> = Vec::new(alloc);
-    print_judgement(alloc, judgement, &mut books).map_err(|_| Fail::new("the books"))?;
-    print_script(alloc, judgement, &mut script).map_err(|_| Fail::new("the script"))?;
+    print_verdict(alloc, verdict, &mut books).map_err(|_| Fail::new("the books"))?;
+    print_script(alloc, verdict, &mut script).map_err(|_| Fail::new("the script"))?;
     let again = played(alloc, script.as_slice())?;
     assert_eq!(rt; again.as_slice(), books.as_slice());
     Ok(())
@@ -240,7 +240,7 @@ where
 {
     let mut notes: Vec<u8> = Vec::new(rt.alloc());
     let lived = ran::<R, C, _>(rt, TOLD, &mut notes)?;
-    assert!(rt; matches!(lived.judgement, Judgement::Yes(_)));
+    assert!(rt; matches!(lived.verdict, Verdict::Yes(_)));
     tells_lines(rt, std::str::from_utf8(notes.as_slice())?);
     tells_refused(rt, lived.refused)
 }

@@ -1,12 +1,35 @@
-//! What closed actors left: the tests of an actor alone, the order of the events of all, and what a verdict of them says.
+//! The audit of a bank: whether what its actors left is one run, by one pass of all events through one world, of which the
+//! headline holds. Journals are first found to be those of one bank, cut to a front that all have where that is asked for,
+//! and filled in.
 #![tactic(auto)]
 
-pub mod audited;
-mod clocks;
-pub mod merge;
-pub mod receipts;
-pub mod sent;
+mod actors;
+mod asking;
+pub mod bank;
+pub mod cells;
+mod coming;
+pub mod cut;
+mod filled;
+mod fitting;
+pub mod gather;
+pub mod history;
+pub mod judged;
+pub mod laws;
+mod moves;
+mod numbers;
+mod opened;
+mod pass;
+mod reading;
+mod setups;
+pub mod shelf;
+pub mod unseen;
 pub mod verdict;
 
-pub use audited::Audited;
-pub use verdict::{AuditTest, Verdict, first_alone, first_clock};
+pub use bank::bank_of;
+pub use cells::in_memory;
+pub use fitting::actor_count;
+pub use gather::{EvidenceFault, EvidenceWhy};
+pub use history::History;
+pub use judged::{audit_gathered, audit_histories};
+pub use shelf::{DiskShelf, PutFault, Shelf, ShelfFault, put_journals};
+pub use verdict::{NotTheBank, Verdict, audit, audit_run, verdict_of};

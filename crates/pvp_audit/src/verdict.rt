@@ -1,36 +1,26 @@
-//! The tests of an audit, and those that look at one actor alone.
-ghost use Rattle.std.specs.Prelude.{IfOk, IfSome, IfNone};
-ghost use Rattle.pvp_audit.specs.Alone.{AloneNo};
-ghost use Rattle.pvp_audit.specs.Verdicts.{HoldOfAll, IsAlone, HasRisingClocks, ClocksRise, ClockFails, FailsAlone};
+//! What the audit of a whole bank says.
+ghost use Rattle.std.specs.Prelude.{◌≡◌, IfOk, IfErr};
+ghost use Rattle.pvp_types.specs.Setup.{IsValid};
+ghost use Rattle.pvp_rooms.specs.Verdicts.{ClocksRise, IsOfRun, IsOfTest};
+ghost use Rattle.pvp_audit.specs.Banked.{IsTheBank};
+ghost use Rattle.pvp_audit.specs.Judged.{Judges, JudgesRun, TellsWhy};
+ghost use Rattle.pvp_audit.specs.Passed.{EndsSo, PassesSo};
 
-use crate::audited::Audited;
-use crate::clocks::check_clocks;
-use crate::receipts::first_unreceipted;
-use pvp_rooms::Closed;
+use crate::fitting::{cells_of, is_the_bank};
+use crate::pass::{Passed, pass};
+use crate::reading::first_unlike;
+use pvp_parties::Party;
+use pvp_rooms::{AuditTest, Closed, first_alone, first_clock};
+use pvp_types::Setup;
+use pvp_world::World;
 use std::alloc::{AllocError, Global};
+use vr_types::MemCell;
 
-/// Which test of an audit fails.
-#[derive(Clone, Copy, Debug, PartialEq, Eq)]
-pub enum AuditTest {
-    /// A1: what is delivered is not what its stamp names, or may not come to this actor.
-    Stamped,
-    /// A2: a clock is not above the one before it and above its stamp's.
-    Clock,
-    /// A3: the event cannot come out as it is recorded.
-    Answered,
-    /// A4: the end state does not read like the replay's.
-    End,
-    /// A5: an event is no seat's next receipt, or a receipt is left over.
-    Receipts,
-    /// A6: memory was refused.
-    NoMemory,
-}
-
-/// What an audit says, in definitions and tests. Calls answer a `Judgement` of `pvp_judge`.
-#[derive(Clone, Copy, Debug, PartialEq, Eq)]
+/// What the audit says of all that the actors of a bank left.
+#[derive(Drop)]
 pub enum Verdict {
-    /// All that the actors left is one run.
-    Yes,
+    /// It is one run. This world went through it, and is where the histories lead.
+    Yes(World<MemCell>),
     /// This test fails at this event of this actor, counted from 1, or at 0 where it is of no event.
     No {
         actor: u16,
@@ -39,40 +29,111 @@ pub enum Verdict {
     },
 }
 
-/// The first actor, in order, whose clocks do not rise, and the event, counted from 1.
-pub fn first_clock<A: Audited>(closed: &[Closed<A>]) -> Option<(u16, usize)>
-    ensures some { IfSome result (λ at. FailsAlone HasRisingClocks closed.now at.0
-        (λ c. ClockFails c.history.items at.1)) }
-    ensures none { IfNone result (ClocksRise closed.now) }
+/// These are not the actors of the bank, each of its setup and once, in order of their numbers, the sites alone over what
+/// their cells held.
+#[derive(Clone, Copy, Debug, PartialEq, Eq)]
+pub struct NotTheBank;
+
+/// Judges what all actors of a bank left, in order of their numbers: whether it is one run of them all, with a receipt
+/// of each event, or which test fails first (`pvp_rooms` has their order). All events go through one new world, and of
+/// a run that world is handed out, of which the headline holds. `No` with `NoMemory` where `verdict_of` answers
+/// `Err`; and `Err` where these are not the bank's actors.
+pub fn audit(alloc: Global, setup: &Setup, closed: &[Closed<Party>]) -> Result<Verdict, NotTheBank>
+    requires { IsValid setup.now }
+    ensures verdict { IfOk result (Judges setup.now closed.now) }
+    ensures bank { IfOk result (λ _. IsTheBank setup.now closed.now) }
+    ensures stranger { IfErr result (λ _. IsTheBank setup.now closed.now → ⊥) }
 {
-    for k in 0..closed.len() {
-        let one = &closed[k];
-        if let Err(at) = check_clocks(one.history.as_slice()) {
-            return Some((one.number, at + 1));
-        }
+    if !is_the_bank(setup, closed) {
+        return Err(NotTheBank);
     }
-    None
+    match verdict_of(alloc, setup, closed) {
+        Ok(verdict) => Ok(verdict),
+        Err(_) => Ok(no_memory()),
+    }
 }
 
-/// The first actor, in order, of which a test of its own fails, the event, counted from 1 or 0 where it is of none, and
-/// the test: its receipts are tested before its clocks. `Err` where memory is refused.
-pub fn first_alone<A: Audited>(
+/// What `audit` says of the bank's actors, and never `NoMemory`: `Err` where memory is refused.
+pub fn verdict_of(
     alloc: Global,
-    closed: &[Closed<A>],
-) -> Result<Option<(u16, usize, AuditTest)>, AllocError>
-    ensures some { IfOk result (λ found. IfSome found (λ no. AloneNo closed.now no.0 no.1 no.2)) }
-    ensures none { IfOk result (λ found. IfNone found (HoldOfAll closed.now (λ _ c. IsAlone c))) }
+    setup: &Setup,
+    closed: &[Closed<Party>],
+) -> Result<Verdict, AllocError>
+    requires valid { IsValid setup.now }
+    requires bank { IsTheBank setup.now closed.now }
+    ensures judges { IfOk result (Judges setup.now closed.now) }
+    ensures tests { IfOk result (TellsWhy IsOfTest) }
 {
-    for k in 0..closed.len() {
-        let one = &closed[k];
-        match first_unreceipted::<A>(alloc, one.history.as_slice(), one.seats.as_slice()) {
-            Err(refused) => return Err(refused),
-            Ok(Some(event)) => return Ok(Some((one.number, event, AuditTest::Receipts))),
-            Ok(None) => {}
-        }
-        if let Err(at) = check_clocks(one.history.as_slice()) {
-            return Ok(Some((one.number, at + 1, AuditTest::Clock)));
+    if let Some((actor, event, why)) = first_alone(alloc, closed)? {
+        return Ok(Verdict::No { actor, event, why });
+    }
+    match one_pass(alloc, setup, closed)? {
+        Passed::Failed { actor, event, why } => Ok(Verdict::No { actor, event, why }),
+        Passed::All(world) => Ok(verdict_at_end(closed, world)),
+    }
+}
+
+/// What is said of the histories of the bank's actors, whatever receipts and ends there are: whether they are one run, or
+/// which of A1 to A3 fails first. `Err` where memory is refused.
+pub fn audit_run(
+    alloc: Global,
+    setup: &Setup,
+    closed: &[Closed<Party>],
+) -> Result<Verdict, AllocError>
+    requires valid { IsValid setup.now }
+    requires bank { IsTheBank setup.now closed.now }
+    ensures judges { IfOk result (JudgesRun setup.now closed.now) }
+    ensures tests { IfOk result (TellsWhy IsOfRun) }
+{
+    if let Some((actor, event)) = first_clock(closed) {
+        return Ok(Verdict::No {
+            actor,
+            event,
+            why: AuditTest::Clock,
+        });
+    }
+    match one_pass(alloc, setup, closed)? {
+        Passed::Failed { actor, event, why } => Ok(Verdict::No { actor, event, why }),
+        Passed::All(world) => {
+            world.is_proved();
+            Ok(Verdict::Yes(world))
         }
     }
-    Ok(None)
+}
+
+/// The pass of all events through one new world, over what the sites opened over. `Err` where memory is refused.
+fn one_pass(alloc: Global, setup: &Setup, closed: &[Closed<Party>]) -> Result<Passed, AllocError>
+    requires valid { IsValid setup.now }
+    requires bank { IsTheBank setup.now closed.now }
+    requires clocks { ClocksRise closed.now }
+    ensures { IfOk result (PassesSo setup.now closed.now) }
+{
+    let cells = cells_of(alloc, closed)?;
+    pass(alloc, setup, closed, cells)
+}
+
+/// What is said where all events passed through a world: whether each end reads like that world's actor.
+fn verdict_at_end(closed: &[Closed<Party>], world: World<MemCell>) -> Verdict
+    ensures { EndsSo closed.now world result }
+{
+    world.is_proved();
+    match first_unlike(&world, closed) {
+        None => Verdict::Yes(world),
+        Some(place) => Verdict::No {
+            actor: closed[place].number,
+            event: 0,
+            why: AuditTest::End,
+        },
+    }
+}
+
+/// What is said where memory is refused.
+fn no_memory() -> Verdict
+    ensures { result ≡ Verdict.No 0 0 AuditTest.NoMemory }
+{
+    Verdict::No {
+        actor: 0,
+        event: 0,
+        why: AuditTest::NoMemory,
+    }
 }

@@ -141,7 +141,7 @@ impl Book {
     }
 
     /// How many matched pairs wait: those that are neither settled nor taken back by both sides.
-    pub fn queue_length(&self) -> usize
+    pub fn queued(&self) -> usize
         ensures { result ≡ length (queue self.now.setup self.now.entries) }
     {
         self.tally.get(PairState::Matched) as usize
@@ -227,7 +227,7 @@ impl Book {
     }
 
     /// Whether a currency's pay-in of this number is in the book.
-    pub fn has_pay_in(&self, c: u8, k: u32) -> bool
+    pub fn paid_in(&self, c: u8, k: u32) -> bool
         ensures { result ≡ has_pay_in self.now.entries c k }
     {
         self.pay_ins.has(c, k)
@@ -416,7 +416,7 @@ impl Book {
             Reply::No(Reason::BadAmount)
         } else if pay == 0 {
             Reply::No(Reason::UnknownReference)
-        } else if self.has_pay_in(c, pay) {
+        } else if self.paid_in(c, pay) {
             Reply::No(Reason::Repeated)
         } else {
             Reply::Done

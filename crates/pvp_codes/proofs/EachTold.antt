@@ -7,13 +7,13 @@ use Rattle.pvp_text.specs.declared.script.LineCode.TheVariants as line
 use Rattle.vr_types.specs.declared.event.SiteFault.TheVariants as site
 use Rattle.rtgs_node.specs.declared.fault.NodeFault.TheVariants as node
 use Rattle.pvp_world.specs.declared.fault.WorldFault.TheVariants as world
-use Rattle.pvp_audit.specs.declared.verdict.AuditTest.TheVariants as audit
+use Rattle.pvp_rooms.specs.declared.verdict.AuditTest.TheVariants as audit
 use Rattle.pvp_wire.specs.declared.fault.WireFault.TheVariants as wire
 use Rattle.pvp_cell.specs.declared.fault.OpenFault.TheVariants as cell
 use Rattle.pvp_journal.specs.declared.fault.JournalWhy.TheVariants as journal
 use Rattle.pvp_journal.specs.declared.fault.WriteFault.TheVariants as write
-use Rattle.pvp_evidence.specs.declared.gather.EvidenceWhy.TheVariants as evidence
-use Rattle.pvp_evidence.specs.declared.shelf.ShelfFault.TheVariants as shelf
+use Rattle.pvp_audit.specs.declared.gather.EvidenceWhy.TheVariants as evidence
+use Rattle.pvp_audit.specs.declared.shelf.ShelfFault.TheVariants as shelf
 use Rattle.pvp_places.specs.declared.fault.PlaceWhy.TheVariants as place
 use Rattle.pvp_places.specs.declared.fault.FolderWhy.TheVariants as folder
 use Rattle.pvp_places.specs.declared.fault.TerminalWhy.TheVariants as terminal

@@ -18,8 +18,8 @@ use Rattle.pvp_world.specs.declared.fault.WorldFault.{WorldFault}
 use Rattle.pvp_world.specs.declared.fault.WorldFault.TheVariants as world
 use Rattle.pvp_world.specs.Fault.{fault_text}
 use Rattle.pvp_trace.specs.Meanings.{meaning as step_meaning}
-use Rattle.pvp_audit.specs.declared.verdict.AuditTest.{AuditTest}
-use Rattle.pvp_audit.specs.declared.verdict.AuditTest.TheVariants as audit
+use Rattle.pvp_rooms.specs.declared.verdict.AuditTest.{AuditTest}
+use Rattle.pvp_rooms.specs.declared.verdict.AuditTest.TheVariants as audit
 use Rattle.pvp_wire.specs.declared.fault.WireFault.{WireFault}
 use Rattle.pvp_wire.specs.declared.fault.WireFault.TheVariants as wire
 use Rattle.pvp_wire.specs.Fault.{fault_code_text}
@@ -31,12 +31,12 @@ use Rattle.pvp_journal.specs.declared.fault.JournalWhy.TheVariants as journal
 use Rattle.pvp_journal.specs.declared.fault.WriteFault.{WriteFault}
 use Rattle.pvp_journal.specs.declared.fault.WriteFault.TheVariants as write
 use Rattle.pvp_journal.specs.Fault.{why_code as journal_code, write_code}
-use Rattle.pvp_evidence.specs.declared.gather.EvidenceWhy.{EvidenceWhy}
-use Rattle.pvp_evidence.specs.declared.gather.EvidenceWhy.TheVariants as evidence
-use Rattle.pvp_evidence.specs.Gathered.{why_code as evidence_code}
-use Rattle.pvp_evidence.specs.declared.shelf.ShelfFault.{ShelfFault}
-use Rattle.pvp_evidence.specs.declared.shelf.ShelfFault.TheVariants as shelf
-use Rattle.pvp_evidence.specs.Shelves.{shelf_code}
+use Rattle.pvp_audit.specs.declared.gather.EvidenceWhy.{EvidenceWhy}
+use Rattle.pvp_audit.specs.declared.gather.EvidenceWhy.TheVariants as evidence
+use Rattle.pvp_audit.specs.Gathered.{why_code as evidence_code}
+use Rattle.pvp_audit.specs.declared.shelf.ShelfFault.{ShelfFault}
+use Rattle.pvp_audit.specs.declared.shelf.ShelfFault.TheVariants as shelf
+use Rattle.pvp_audit.specs.Shelves.{shelf_code}
 use Rattle.pvp_places.specs.declared.fault.PlaceWhy.{PlaceWhy}
 use Rattle.pvp_places.specs.declared.fault.PlaceWhy.TheVariants as place
 use Rattle.pvp_places.specs.declared.fault.FolderWhy.{FolderWhy}

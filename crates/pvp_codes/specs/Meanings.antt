@@ -9,8 +9,8 @@ use Rattle.pvp_text.specs.declared.setup.TextFault.{TextFault}
 use Rattle.pvp_text.specs.declared.setup.TextFault.TheVariants as text
 use Rattle.pvp_text.specs.declared.script.LineCode.{LineCode}
 use Rattle.pvp_text.specs.declared.script.LineCode.TheVariants as line
-use Rattle.pvp_audit.specs.declared.verdict.AuditTest.{AuditTest}
-use Rattle.pvp_audit.specs.declared.verdict.AuditTest.TheVariants as audit
+use Rattle.pvp_rooms.specs.declared.verdict.AuditTest.{AuditTest}
+use Rattle.pvp_rooms.specs.declared.verdict.AuditTest.TheVariants as audit
 use Rattle.pvp_wire.specs.declared.fault.WireFault.{WireFault}
 use Rattle.pvp_wire.specs.declared.fault.WireFault.TheVariants as wire
 use Rattle.pvp_cell.specs.declared.fault.OpenFault.{OpenFault}
@@ -19,10 +19,10 @@ use Rattle.pvp_journal.specs.declared.fault.JournalWhy.{JournalWhy}
 use Rattle.pvp_journal.specs.declared.fault.JournalWhy.TheVariants as journal
 use Rattle.pvp_journal.specs.declared.fault.WriteFault.{WriteFault}
 use Rattle.pvp_journal.specs.declared.fault.WriteFault.TheVariants as write
-use Rattle.pvp_evidence.specs.declared.gather.EvidenceWhy.{EvidenceWhy}
-use Rattle.pvp_evidence.specs.declared.gather.EvidenceWhy.TheVariants as evidence
-use Rattle.pvp_evidence.specs.declared.shelf.ShelfFault.{ShelfFault}
-use Rattle.pvp_evidence.specs.declared.shelf.ShelfFault.TheVariants as shelf
+use Rattle.pvp_audit.specs.declared.gather.EvidenceWhy.{EvidenceWhy}
+use Rattle.pvp_audit.specs.declared.gather.EvidenceWhy.TheVariants as evidence
+use Rattle.pvp_audit.specs.declared.shelf.ShelfFault.{ShelfFault}
+use Rattle.pvp_audit.specs.declared.shelf.ShelfFault.TheVariants as shelf
 use Rattle.pvp_places.specs.declared.fault.PlaceWhy.{PlaceWhy}
 use Rattle.pvp_places.specs.declared.fault.PlaceWhy.TheVariants as place
 use Rattle.pvp_places.specs.declared.fault.FolderWhy.{FolderWhy}
@@ -101,7 +101,7 @@ seats_meaning =
 
 abbrev pub journal_meaning : JournalWhy → List ℕ
 journal_meaning journal.Magic = codes "the bytes do not begin with PVPJ"
-journal_meaning journal.Version = codes "the version is not 1"
+journal_meaning journal.Version = codes "the version is neither 1 nor 2"
 journal_meaning journal.Head = codes "the head is cut off, or its opening has another flag"
 journal_meaning journal.Length = codes "a record's length does not have its complement behind it"
 journal_meaning journal.Checksum = codes "a record has another checksum"

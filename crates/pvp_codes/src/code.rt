@@ -8,11 +8,11 @@ use crate::meanings::{
     place_meaning, reason_meaning, record_meaning, seats_meaning, shelf_meaning, terminal_meaning,
     text_meaning, wire_meaning,
 };
-use pvp_audit::AuditTest;
+use pvp_audit::{EvidenceWhy, ShelfFault};
 use pvp_cell::OpenFault;
-use pvp_evidence::{EvidenceWhy, ShelfFault};
 use pvp_journal::{JournalWhy, WriteFault};
 use pvp_places::{FolderWhy, PlaceWhy, TerminalWhy};
+use pvp_rooms::AuditTest;
 use pvp_text::{LineCode, TextFault};
 use pvp_trace::meanings::meaning;
 use pvp_types::Reason;

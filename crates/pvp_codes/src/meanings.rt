@@ -4,11 +4,11 @@
 ghost use Rattle.std.specs.Prelude.{◌≡◌};
 ghost use Rattle.pvp_codes.specs.Meanings as spec;
 
-use pvp_audit::AuditTest;
+use pvp_audit::{EvidenceWhy, ShelfFault};
 use pvp_cell::OpenFault;
-use pvp_evidence::{EvidenceWhy, ShelfFault};
 use pvp_journal::{JournalWhy, WriteFault};
 use pvp_places::{FolderWhy, PlaceWhy, ServeFault, TerminalWhy};
+use pvp_rooms::AuditTest;
 use pvp_text::{LineCode, TextFault};
 use pvp_types::{Reason, SetupFault};
 use pvp_wire::WireFault;
@@ -137,7 +137,7 @@ pub fn journal_meaning(why: JournalWhy) -> &'static str
 {
     match why {
         JournalWhy::Magic => "the bytes do not begin with PVPJ",
-        JournalWhy::Version => "the version is not 1",
+        JournalWhy::Version => "the version is neither 1 nor 2",
         JournalWhy::Head => "the head is cut off, or its opening has another flag",
         JournalWhy::Length => "a record's length does not have its complement behind it",
         JournalWhy::Checksum => "a record has another checksum",

@@ -9,10 +9,10 @@ use Rattle.pvp_command.specs.declared.fault.Fault.TheVariants.{Setup, Line, NoSu
 use Rattle.pvp_journal.specs.declared.fault.JournalFault.{JournalFault}
 use Rattle.pvp_journal.specs.declared.fault.JournalWhy.{JournalWhy}
 use Rattle.pvp_journal.specs.declared.fault.JournalWhy.TheVariants as bytes
-use Rattle.pvp_evidence.specs.declared.gather.EvidenceFault.{EvidenceFault}
-use Rattle.pvp_evidence.specs.declared.gather.EvidenceFault.TheVariants as evidence
-use Rattle.pvp_evidence.specs.declared.shelf.PutFault.{PutFault}
-use Rattle.pvp_evidence.specs.declared.shelf.PutFault.TheVariants as put
+use Rattle.pvp_audit.specs.declared.gather.EvidenceFault.{EvidenceFault}
+use Rattle.pvp_audit.specs.declared.gather.EvidenceFault.TheVariants as evidence
+use Rattle.pvp_audit.specs.declared.shelf.PutFault.{PutFault}
+use Rattle.pvp_audit.specs.declared.shelf.PutFault.TheVariants as put
 use Rattle.pvp_command.specs.declared.files.FileFault.{FileFault}
 use Rattle.pvp_command.specs.declared.files.Source.{Source}
 use Rattle.pvp_live.specs.declared.running.LiveFault.{LiveFault}

@@ -6,14 +6,14 @@ use Rattle.pvp_text.specs.declared.script.Line.{Line}
 use Rattle.pvp_text.specs.declared.script.Kind.TheVariants.{Live}
 use Rattle.pvp_text.specs.SetupText.{setup_text}
 use Rattle.pvp_text.specs.Script.{script_at}
-use Rattle.pvp_judge.specs.Judged.{Left}
-use Rattle.pvp_judge.specs.declared.judgement.Judgement.{Judgement}
-use Rattle.pvp_judge.specs.declared.judgement.Judgement.TheVariants.{Yes, No}
-use Rattle.pvp_live.specs.Told.{WasJudged, judgement_text}
+use Rattle.pvp_audit.specs.Judged.{Left}
+use Rattle.pvp_audit.specs.declared.verdict.Verdict.{Verdict}
+use Rattle.pvp_audit.specs.declared.verdict.Verdict.TheVariants.{Yes, No}
+use Rattle.pvp_live.specs.Told.{WasJudged, verdict_text}
 use Rattle.pvp_live.specs.Scripts.{script_text}
-use Rattle.pvp_evidence.specs.Bank.{bank_of}
-use Rattle.pvp_evidence.specs.Shelves.{File, Gets, file_of}
-use Rattle.pvp_evidence.specs.declared.shelf.PutFault.{PutFault}
+use Rattle.pvp_audit.specs.Bank.{bank_of}
+use Rattle.pvp_audit.specs.Shelves.{File, Gets, file_of}
+use Rattle.pvp_audit.specs.declared.shelf.PutFault.{PutFault}
 use Rattle.pvp_command.specs.declared.lives.Told.{Told}
 use Rattle.pvp_command.specs.Fault.{put_told}
 use Rattle.pvp_command.specs.declared.lives.Ending.{Ending}
@@ -25,7 +25,7 @@ use Rattle.pvp_command.specs.declared.files.Source.TheVariants.{Setup as OfSetup
 use Rattle.pvp_command.specs.Request.{TellsFile, TellsSetup, TellsScript}
 
 -- an audit that says no has a status of its own
-abbrev pub status_judged : Judgement → ℕ
+abbrev pub status_judged : Verdict → ℕ
 status_judged (Yes world) = 0
 status_judged (No actor event why) = 3
 
@@ -34,9 +34,9 @@ abbrev pub IsFaultless : ℕ → Type 0
 IsFaultless status = (status ≡ 0) ⊎ (status ≡ 3)
 
 -- the books that a run left, or the script that plays it again
-abbrev pub ending_text : Ending → Judgement → List ℕ
-ending_text Books judgement = judgement_text judgement
-ending_text Script judgement = script_text judgement
+abbrev pub ending_text : Ending → Verdict → List ℕ
+ending_text Books verdict = verdict_text verdict
+ending_text Script verdict = script_text verdict
 
 -- the name of the folder for journals, where there is one
 abbrev pub folder_of : Told → Option (List ℕ)
@@ -48,16 +48,16 @@ KeptIn None text s closed before after = after ≡ before
 KeptIn (Some folder) text s closed before after =
     (life : List ℕ) × (length life ≡ 16) × Gets (map (file_of folder s (bank_of text life)) closed) before after
 
--- what all actors of the bank left was judged, their journals were kept where that is asked for, and the judgement is
+-- what all actors of the bank left was judged, their journals were kept where that is asked for, and the verdict is
 -- written
 pub record IsTold (told : Told) (text : List ℕ) (s : Setup) (before after : Option (List File))
     (old new : Option (List ℕ)) (status : ℕ) : Type 0 where
   pub closed : List Left
-  pub judgement : Judgement
-  pub judged : WasJudged s closed judgement
+  pub verdict : Verdict
+  pub judged : WasJudged s closed verdict
   pub kept : KeptIn (folder_of told) text s closed before after
-  pub written : Appends old new (ending_text told.ending judgement)
-  pub ended : status ≡ status_judged judgement
+  pub written : Appends old new (ending_text told.ending verdict)
+  pub ended : status ≡ status_judged verdict
 
 abbrev pub LivesScript : Told → List ℕ → Setup → List ℕ → Option (List File) → Option (List File) → Option (List ℕ)
     → Option (List ℕ) → ℕ → Type 0

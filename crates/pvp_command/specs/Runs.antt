@@ -10,7 +10,7 @@ use Rattle.pvp_command.specs.declared.request.Request.TheVariants.{Check, Book, 
 use Rattle.pvp_command.specs.Request.{CheckWrites, CheckTells, BookWrites, BookTells, PlayWrites, PlayTells}
 use Rattle.pvp_command.specs.Lives.{LiveWrites, LiveTells}
 use Rattle.pvp_command.specs.Audits.{AuditWrites, AuditTells}
-use Rattle.pvp_evidence.specs.Shelves.{File}
+use Rattle.pvp_audit.specs.Shelves.{File}
 
 -- what it writes on a machine without threads and net, and the status that goes with it
 abbrev pub Writes : (List ℕ → Option (List ℕ)) → Request → Option (List ℕ) → Option (List ℕ) → ℕ → Type 0
@@ -63,7 +63,7 @@ Tells known fails (Live told_how setup script) old new told =
     IfSome (known setup.now) (λ rules. LiveTells (fails setup.now) rules (fails script.now)
     (known script.now) old new told) × (new ≡ old)
 Tells known fails (Audit how setup journals) old new told =
-    IfSome (known setup.now) (λ rules. AuditTells known fails setup.now rules
+    IfSome (known setup.now) (λ rules. AuditTells how known fails setup.now rules
     (map (λ name. name.now) journals.items) old new told)
 Tells known fails (Keys setup secret folder) old new told = (told ≡ Output) × (new ≡ old)
 Tells known fails (Serve task) old new told = (told ≡ Net) × (new ≡ old)

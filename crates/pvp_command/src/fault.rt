@@ -1,7 +1,7 @@
 //! What ends a run of the program, as it is reported on standard error.
 
 use crate::files::{FileFault, Source, Unread};
-use pvp_evidence::{EvidenceFault, EvidenceWhy, PutFault, ShelfFault};
+use pvp_audit::{EvidenceFault, EvidenceWhy, PutFault, ShelfFault};
 use pvp_journal::{JournalFault, JournalWhy};
 use pvp_live::LiveFault;
 use pvp_text::{LineCode, RunFault, TextFault};

@@ -2,7 +2,7 @@
 
 use crate::fault::Fault;
 use crate::files::{Files, Source, read_source};
-use pvp_evidence::Shelf;
+use pvp_audit::Shelf;
 use pvp_live::actors::numbers_of;
 use pvp_places::write_keys;
 use pvp_text::read_setup;

@@ -6,9 +6,8 @@ ghost use Rattle.pvp_command.specs.Lives.{LiveWrites, LiveTells, LivesScript, Te
 
 use crate::fault::Fault;
 use crate::files::{Files, Source, read_source};
-use pvp_evidence::{PutFault, Shelf, ShelfFault, bank_of, put_journals};
-use pvp_judge::Judgement;
-use pvp_live::{live as run_live, print_judgement, print_script};
+use pvp_audit::{PutFault, Shelf, ShelfFault, Verdict, bank_of, put_journals};
+use pvp_live::{live as run_live, print_script, print_verdict};
 use pvp_parties::Party;
 use pvp_play::cells::new_cells;
 use pvp_rooms::Closed;
@@ -194,7 +193,7 @@ where
         rules,
         lived.closed.as_slice(),
     )?;
-    let status = tell(alloc, told.ending, &lived.judgement, out)?;
+    let status = tell(alloc, told.ending, &lived.verdict, out)?;
     if let Some(refused) = lived.refused {
         let _ = write!(err, "{refused}\n");
     }
@@ -251,29 +250,29 @@ fn keep<R: RandomSource, K: Shelf>(
 pub(crate) fn tell<O: Write>(
     alloc: Global,
     ending: Ending,
-    judgement: &Judgement,
+    verdict: &Verdict,
     out: &mut O,
 ) -> Result<u8, Fault>
     ensures text { OnOk result (Appends (O.contents out.old) (O.contents out.new)
-        (ending_text ending judgement.now)) }
-    ensures status { IfOk result (λ status. status ≡ status_judged judgement.now) }
+        (ending_text ending verdict.now)) }
+    ensures status { IfOk result (λ status. status ≡ status_judged verdict.now) }
     ensures faultless { IfOk result IsFaultless }
     ensures err { IfErr result IsTextFault }
 {
     match ending {
-        Ending::Books => print_judgement(alloc, judgement, out)?,
-        Ending::Script => print_script(alloc, judgement, out)?,
+        Ending::Books => print_verdict(alloc, verdict, out)?,
+        Ending::Script => print_script(alloc, verdict, out)?,
     }
-    Ok(status_judged(judgement))
+    Ok(status_judged(verdict))
 }
 
 /// The status of a live run that was judged so.
-fn status_judged(judgement: &Judgement) -> u8
-    ensures status { result ≡ status_judged judgement.now }
+fn status_judged(verdict: &Verdict) -> u8
+    ensures status { result ≡ status_judged verdict.now }
     ensures faultless { IsFaultless result }
 {
-    match judgement {
-        Judgement::Yes(_) => 0,
-        Judgement::No { .. } => AUDIT_NO,
+    match verdict {
+        Verdict::Yes(_) => 0,
+        Verdict::No { .. } => AUDIT_NO,
     }
 }

@@ -121,11 +121,16 @@ pub fn parse<'a, S: AsStr>(alloc: Global, words: &'a [S]) -> Result<Option<Asked
     let Some((name, inner)) = matches.subcommand() else {
         return Ok(None);
     };
-    let explains = inner.get_flag("explain") && !inner.get_flag("no-explain");
+    let explains = has_explain(inner);
     match parse_command(alloc, &mut program, name, inner)? {
         Some(request) => Ok(Some(Asked { request, explains })),
         None => Ok(None),
     }
+}
+
+/// Whether these words ask for explanations.
+fn has_explain(words: &ArgMatches<'_>) -> bool {
+    words.get_flag("explain") && !words.get_flag("no-explain")
 }
 
 /// The request that the words of a command are.
@@ -193,6 +198,7 @@ fn parse_audit<'a>(alloc: Global, words: &ArgMatches<'a>) -> Result<Option<Reque
     let how = Auditing {
         ending: ending_at(words),
         cuts: words.get_flag("cut"),
+        explains: has_explain(words),
     };
     Ok(Some(Request::Audit {
         how,
@@ -341,14 +347,15 @@ const JOURNAL_HELP: &str =
     "Writes a journal of each actor, NAME.journal, with all that it took, into this folder, which is new or empty; \
 `audit` judges them";
 
-const JOURNALS_HELP: &str = "A journal of each actor of the bank, in any order";
+const JOURNALS_HELP: &str =
+    "A journal of each actor of the bank, in any order; a client that asked for nothing may have none";
 
 const CUT_HELP: &str =
     "Judges the greatest part of the journals in which all that came to an actor was sent by its sender: for journals that were \
 copied while the bank ran, or one of which was truncated; reports on standard error how many events are cut off";
 
 const AUDIT_ABOUT: &str =
-    "Judges the journals of all actors of a bank: if together they are one legal run, prints the books and `audit yes`, else the first test that fails";
+    "Judges the journals of the actors of a bank: if together they are one legal run, prints the books and `audit yes`, else the first test that fails";
 
 const KEYS_ABOUT: &str =
     "Makes a keys file for each actor of a bank, NAME.keys, from a secret of the bank";

@@ -18,7 +18,7 @@ use Rattle.pvp_wire.specs.declared.stamped.Stamp.{Stamp}
 use Rattle.pvp_wire.specs.declared.stamped.Stamped.{Stamped}
 use Rattle.pvp_wire.specs.Spelling.{number, spelling}
 use Rattle.pvp_wire.specs.Fits.{IsSpelled}
-use Rattle.pvp_wire.specs.Reading.{Reads}
+use Rattle.pvp_wire.specs.Reading.{◌>>=◌, Reads}
 use Rattle.pvp_wire.proofs.Formats.{again1, again2}
 use Rattle.pvp_wire.proofs.Parts.{n2, n4, n8}
 use Rattle.pvp_wire.proofs.Frames.{frame-again}
@@ -27,9 +27,11 @@ use Rattle.pvp_parties.specs.declared.party.PartyEvent.{PartyEvent}
 use Rattle.pvp_parties.specs.declared.party.PartyEvent.TheVariants.{OfSite, OfNode, OfClient}
 use Rattle.pvp_parties.specs.declared.party.PartyOutcome.{PartyOutcome}
 use Rattle.pvp_parties.specs.declared.party.PartyOutcome.TheVariants.{OfSite as SiteTold, OfNode as NodeTold, OfClient as ClientTold, Stray}
-use Rattle.pvp_journal.specs.Spelling.{Entry, Envelope, stamped_envelope, command_request, delivery_text, event_text, site_number, node_number, client_number, why_number, frames_text, sent_text, outcome_text, body_text}
-use Rattle.pvp_journal.specs.Fits.{DeliveryFits, EventFits, FramesFit, SentFits, OutcomeFits, BodyFits}
-use Rattle.pvp_journal.specs.Reading.{Happened, stamped_at, sent_at, frames_from, all_sent_at, delivered_at, submitted_at, event_at, site_fault_at, node_fault_at, client_fault_at, why_at, outcome_at, entry_at, body_at}
+use Rattle.pvp_journal.specs.declared.summary.Summary.{Summary}
+use Rattle.pvp_journal.specs.declared.summary.Summary.TheVariants.{Whole, Sent}
+use Rattle.pvp_journal.specs.Spelling.{Entry, Envelope, stamped_envelope, command_request, delivery_text, event_text, site_number, node_number, client_number, why_number, frames_text, sent_text, outcome_text, summary_text, body_text}
+use Rattle.pvp_journal.specs.Fits.{DeliveryFits, EventFits, FramesFit, SentFits, OutcomeFits, SummaryFits, BodyFits}
+use Rattle.pvp_journal.specs.Reading.{Happened, stamped_at, sent_at, frames_from, all_sent_at, delivered_at, submitted_at, event_at, site_fault_at, node_fault_at, client_fault_at, why_at, outcome_at, summary_at, entry_at, body_at}
 
 pub stamped-again : (s : Stamped) (rest : List ℕ) → IsSpelled s → stamped_at (spelling s ++ rest) ≡ Ok (s, rest)
 unfolding stamped_at
@@ -166,17 +168,35 @@ outcome-again me clock (ClientTold (Ok sent)) rest h = rw (all_sent-again me clo
 outcome-again me clock (ClientTold (Err fault)) rest h = rw (client-again fault rest) refl
 outcome-again me clock Stray rest h = refl
 
+-- ---- summaries
+
+abbrev whole : Reads PartyOutcome → Reads Summary
+whole read = read >>= λ found. Ok (Whole found.0, found.1)
+
+summary-again : (me clock : ℕ) (summary : Summary) (rest : List ℕ) → SummaryFits me clock summary
+    → summary_at me clock (summary_text me clock summary ++ rest) ≡ Ok (summary, rest)
+unfolding summary_at
+summary-again me clock (Sent count dropped) rest h = rw (why-again dropped rest) refl
+summary-again me clock (Whole (SiteTold (Did sent dropped))) rest h = ap whole (outcome-again me clock (SiteTold (Did sent dropped)) rest h)
+summary-again me clock (Whole (SiteTold (Refused fault))) rest h = ap whole (outcome-again me clock (SiteTold (Refused fault)) rest h)
+summary-again me clock (Whole (SiteTold (Fell fault cell))) rest h = ap whole (outcome-again me clock (SiteTold (Fell fault cell)) rest h)
+summary-again me clock (Whole (NodeTold (Ok sent))) rest h = ap whole (outcome-again me clock (NodeTold (Ok sent)) rest h)
+summary-again me clock (Whole (NodeTold (Err fault))) rest h = ap whole (outcome-again me clock (NodeTold (Err fault)) rest h)
+summary-again me clock (Whole (ClientTold (Ok sent))) rest h = ap whole (outcome-again me clock (ClientTold (Ok sent)) rest h)
+summary-again me clock (Whole (ClientTold (Err fault))) rest h = ap whole (outcome-again me clock (ClientTold (Err fault)) rest h)
+summary-again me clock (Whole Stray) rest h = ap whole (outcome-again me clock Stray rest h)
+
 -- ---- what a record says
 
 entry-again : (me : ℕ) (r : Entry) (rest : List ℕ) → BodyFits me r → entry_at me (body_text me r ++ rest) ≡ Ok (r, rest)
 unfolding entry_at
 entry-again me r rest h =
     let event = event_text me r.clock r.stamp r.event in
-    let outcome = outcome_text me r.clock r.outcome in
-    let regrouped = append_assoc (number 8 r.clock ++ event) outcome rest ∙ append_assoc (number 8 r.clock) event (outcome ++ rest) in
-    let first = n8.again r.clock (event ++ (outcome ++ rest)) h.0 in
-    let second = event-again me r.clock r.stamp r.event (outcome ++ rest) h.1 in
-    let third = outcome-again me r.clock r.outcome rest h.2 in
+    let summary = summary_text me r.clock r.outcome in
+    let regrouped = append_assoc (number 8 r.clock ++ event) summary rest ∙ append_assoc (number 8 r.clock) event (summary ++ rest) in
+    let first = n8.again r.clock (event ++ (summary ++ rest)) h.0 in
+    let second = event-again me r.clock r.stamp r.event (summary ++ rest) h.1 in
+    let third = summary-again me r.clock r.outcome rest h.2 in
     ap (entry_at me) regrouped ∙ rw (first, second, third) refl
 
 pub body-again : (me : ℕ) (r : Entry) → BodyFits me r → body_at me (body_text me r) ≡ Ok r

@@ -11,13 +11,15 @@ use Rattle.pvp_wire.specs.declared.fault.WireFault.TheVariants.{Length as CutFie
 use Rattle.pvp_wire.specs.Reading.{◌>>=◌, Reads, number_at}
 use Rattle.pvp_wire.proofs.Formats.{IsBytes-rest, IsBytes-drop, IsBytes-take, Takes, Takes-then, bind_ok, guard_ok, ok_is}
 use Rattle.pvp_wire.proofs.Numbers.{number_format, length-number}
-use Rattle.pvp_wire.proofs.Parts.{n2, n4, parted, never}
+use Rattle.pvp_wire.proofs.Parts.{n2, n4, tagged, parted, never}
 use Rattle.pvp_journal.specs.declared.fault.JournalWhy.{JournalWhy}
 use Rattle.pvp_journal.specs.declared.fault.JournalWhy.TheVariants.{Magic, Version}
 use Rattle.pvp_journal.specs.declared.head.Head.{Head}
-use Rattle.pvp_journal.specs.Spelling.{Entry, checksum, magic, version, greatest_u32, opening_text, head_text, head_sum, with_length, with_checksum, record_text, record_sum, records_text, records_sum, journal_text, journal_sum}
+use Rattle.pvp_journal.specs.declared.head.Version.{Version as Format}
+use Rattle.pvp_journal.specs.declared.head.Version.TheVariants.{One, Two}
+use Rattle.pvp_journal.specs.Spelling.{Entry, checksum, magic, version_number, greatest_u32, opening_text, head_text, head_sum, with_length, with_checksum, record_text, record_sum, records_text, records_sum, journal_text, journal_sum}
 use Rattle.pvp_journal.specs.Fits.{OpeningFits, IsHead, IsJournalable, AreJournalable}
-use Rattle.pvp_journal.specs.Reading.{opening_at, bank_at, fields_at, begins_with, in_head, head_at}
+use Rattle.pvp_journal.specs.Reading.{opening_at, bank_at, fields_at, begins_with, in_head, versioned_at, head_at}
 use Rattle.pvp_journal.specs.Journals.{Sound, agree, front_at, length_in, measured_in, body_in, size_in, after, Place, next, Stands, AreRecords, ReadsAs}
 use Rattle.pvp_journal.proofs.Places.{sound-is}
 use Rattle.pvp_journal.proofs.Sealed.{agree-whole, length-measured}
@@ -190,26 +192,26 @@ bank-takes bytes bank rest fits e =
 abbrev fields_text : Head → List ℕ
 fields_text head = number 2 head.actor ++ opening_text head.opening ++ head.bank
 
-fields-takes : (bytes : List ℕ) (head : Head) (rest : List ℕ) → IsBytes bytes → fields_at bytes ≡ Ok (head, rest)
-    → Takes bytes (fields_text head) rest × IsHead head
+fields-takes : (version : Format) (bytes : List ℕ) (head : Head) (rest : List ℕ) → IsBytes bytes → fields_at version bytes ≡ Ok (head, rest)
+    → Takes bytes (fields_text head) rest × IsHead head × (head.version ≡ version)
 unfolding fields_at OpeningTakes
-fields-takes bytes head rest fits e =
+fields-takes version bytes head rest fits e =
     let m =
     bind_ok (number_at 2 bytes) (λ actor. opening_at actor.1 >>= λ opening. bank_at opening.1 >>= λ bank.
-    Ok (record { actor = actor.0; opening = opening.0; bank = bank.0 }, bank.1)) (head, rest) e in
+    Ok (record { version = version; actor = actor.0; opening = opening.0; bank = bank.0 }, bank.1)) (head, rest) e in
     let k =
-    bind_ok (opening_at m.0.1) (λ opening. bank_at opening.1 >>= λ bank. Ok (record { actor = m.0.0; opening = opening.0; bank = bank.0 }, bank.1))
-    (head, rest) m.2 in
-    let l = bind_ok (bank_at k.0.1) (λ bank. Ok (record { actor = m.0.0; opening = k.0.0; bank = bank.0 }, bank.1)) (head, rest) k.2 in
+    bind_ok (opening_at m.0.1) (λ opening. bank_at opening.1 >>= λ bank.
+    Ok (record { version = version; actor = m.0.0; opening = opening.0; bank = bank.0 }, bank.1)) (head, rest) m.2 in
+    let l = bind_ok (bank_at k.0.1) (λ bank. Ok (record { version = version; actor = m.0.0; opening = k.0.0; bank = bank.0 }, bank.1)) (head, rest) k.2 in
     let a = n2.takes bytes m.0.0 m.0.1 fits m.1 in
     let b = opening-takes m.0.1 k.0.0 k.0.1 a.0.rest_fits k.1 in
     let c = bank-takes k.0.1 l.0.0 l.0.1 b.0.rest_fits l.1 in
-    let read : Head = record { actor = m.0.0; opening = k.0.0; bank = l.0.0 } in
+    let read : Head = record { version = version; actor = m.0.0; opening = k.0.0; bank = l.0.0 } in
     let t : Takes bytes (fields_text read) l.0.1 =
     Takes-then bytes (number 2 m.0.0 ++ opening_text k.0.0) k.0.1 l.0.0 l.0.1
     (Takes-then bytes (number 2 m.0.0) m.0.1 (opening_text k.0.0) k.0.1 a.0 b.0) c.0 in
-    subst (λ (p : Head × List ℕ). Takes bytes (fields_text p.0) p.1 × IsHead p.0) (ok_is (read, l.0.1) (head, rest) l.2)
-    (t, record { actor = a.1; opening = b.1; bank = c.1 })
+    subst (λ (p : Head × List ℕ). Takes bytes (fields_text p.0) p.1 × IsHead p.0 × (p.0.version ≡ version)) (ok_is (read, l.0.1) (head, rest) l.2)
+    (t, record { actor = a.1; opening = b.1; bank = c.1 }, refl)
 
 begins-takes : (n x : ℕ) (bytes : List ℕ) → IsBytes bytes → begins_with n x bytes ≡ true → bytes ≡ number n x ++ drop n bytes
 begins-takes n x bytes fits h =
@@ -219,6 +221,9 @@ begins-takes n x bytes fits h =
 
 abbrev found : Head × List ℕ → Result (Head × List ℕ) JournalWhy
 found x = Ok x
+
+abbrev refused : JournalWhy → Result (Head × List ℕ) JournalWhy
+refused why = Err why
 
 heads : (x y : Head × List ℕ) → found x ≡ found y → x ≡ y
 heads x y e = cc
@@ -232,25 +237,51 @@ within : (read : Reads Head) (z : Head × List ℕ) → in_head read ≡ Ok z �
 within (Ok x) z e = ap (λ (p : Head × List ℕ). Ok p) (heads x z e)
 within (Err fault) z e = absurd cc
 
+-- what stands behind the letters
+behind_text : Head → List ℕ
+behind_text head = version_number head.version ∷ fields_text head
+
+VersionedTakes : List ℕ → Head → List ℕ → Type 0
+VersionedTakes bytes head rest = Takes bytes (behind_text head) rest × IsHead head
+
+of_version : (version : Format) (n : ℕ) (bytes : List ℕ) (head : Head) (rest : List ℕ) → IsBytes bytes → n ≡ version_number version
+    → in_head (fields_at version bytes) ≡ Ok (head, rest) → VersionedTakes (n ∷ bytes) head rest
+unfolding VersionedTakes behind_text
+of_version version n bytes head rest fits is e =
+    let f = fields-takes version bytes head rest fits (within (fields_at version bytes) (head, rest) e) in
+    let number-is : n ≡ version_number head.version = is ∙ sym (ap version_number f.2) in
+    (subst (λ (k : ℕ). Takes (n ∷ bytes) (k ∷ fields_text head) rest) number-is (tagged n bytes (fields_text head) rest f.0), f.1)
+
+by_version : (b : Bool) (n k : ℕ) (x y : Result (Head × List ℕ) JournalWhy) (z : Head × List ℕ) (Goal : Type 0) → (n == k) ≡ b
+    → (if b then x else y) ≡ Ok z → (n ≡ k → x ≡ Ok z → Goal) → (y ≡ Ok z → Goal) → Goal
+by_version true n k x y z Goal is e this other = this (eqb-true n k is) e
+by_version false n k x y z Goal is e this other = other e
+
+no_version : (z : Head × List ℕ) → refused Version ≡ found z → ⊥
+no_version z e = cc
+
+versioned-takes : (bytes : List ℕ) (head : Head) (rest : List ℕ) → IsBytes bytes → versioned_at bytes ≡ Ok (head, rest) → VersionedTakes bytes head rest
+unfolding versioned_at
+versioned-takes [] head rest fits e = absurd (no_version (head, rest) e)
+versioned-takes (n ∷ bytes) head rest fits e =
+    let bs = IsBytes-rest n bytes fits in
+    let z : Head × List ℕ = (head, rest) in
+    let Goal = VersionedTakes (n ∷ bytes) head rest in
+    by_version (n == 1) n 1 _ _ z Goal refl e (λ is r. of_version One n bytes head rest bs is r) (λ e2.
+    by_version (n == 2) n 2 _ _ z Goal refl e2 (λ is r. of_version Two n bytes head rest bs is r) (λ e3. absurd (no_version z e3)))
+
 head-takes : (bytes : List ℕ) (head : Head) (rest : List ℕ) → IsBytes bytes → head_at bytes ≡ Ok (head, rest) → Takes bytes (head_text head) rest × IsHead head
-unfolding head_at
+unfolding head_at VersionedTakes behind_text
 head-takes bytes head rest fits e =
     let d4 = drop 4 bytes in
-    let d5 = drop 5 bytes in
-    let a = wanted (begins_with 4 magic bytes) Magic (if not (begins_with 1 version d4) then Err Version else in_head (fields_at d5)) (head, rest) e in
-    let b = wanted (begins_with 1 version d4) Version (in_head (fields_at d5)) (head, rest) a.1 in
-    let f = fields-takes d5 head rest (IsBytes-drop 5 bytes fits) (within (fields_at d5) (head, rest) b.1) in
+    let a = wanted (begins_with 4 magic bytes) Magic (versioned_at d4) (head, rest) e in
+    let b = versioned-takes d4 head rest (IsBytes-drop 4 bytes fits) a.1 in
     let one = begins-takes 4 magic bytes fits a.0 in
-    let two = begins-takes 1 version d4 (IsBytes-drop 4 bytes fits) b.0 in
-    let at5 : drop 1 d4 ≡ d5 = drop-drop 1 4 bytes in
     let m = number 4 magic in
-    let v = number 1 version in
-    let text : m ++ (v ++ fields_text head) ≡ head_text head = simp append_assoc in
+    let text : m ++ behind_text head ≡ head_text head = simp append_assoc in
     let parts : bytes ≡ head_text head ++ rest =
-    one ∙ ap (λ (x : List ℕ). m ++ x) (two ∙ ap (λ (x : List ℕ). v ++ x) (at5 ∙ f.0.parts))
-    ∙ ap (λ (x : List ℕ). m ++ x) (sym (append_assoc v (fields_text head) rest)) ∙ sym (append_assoc m (v ++ fields_text head) rest)
-    ∙ ap (λ (x : List ℕ). x ++ rest) text in
-    (record { parts = parts; rest_fits = f.0.rest_fits }, f.1)
+    one ∙ ap (λ (x : List ℕ). m ++ x) b.0.parts ∙ sym (append_assoc m (behind_text head) rest) ∙ ap (λ (x : List ℕ). x ++ rest) text in
+    (record { parts = parts; rest_fits = b.0.rest_fits }, b.1)
 
 -- ---- the whole
 

@@ -1,7 +1,8 @@
 -- What a record says is spelled as it is read, part by part.
-use Rattle.std.proofs.Common.{◌≡◌, ℕ, zero, suc, ◌+◌, ◌==◌, ◌&&◌, Bool, true, false, List, [], ◌∷◌, ◌++◌, length, drop, Option, Some, None, Ok, Err, refl, sym, ap, subst, ◌∙◌, if◌then◌else◌}
+use Rattle.std.proofs.Common.{◌≡◌, ℕ, zero, suc, ◌+◌, ◌<◌, ◌==◌, ◌&&◌, Bool, true, false, List, [], ◌∷◌, ◌++◌, length, drop, Option, Some, None, Ok, Err, refl, sym, ap, subst, ◌∙◌, if◌then◌else◌}
 use Rattle.std.proofs.lemmas.Bool.{eqb-true}
 use Rattle.std.proofs.lemmas.List.{append-nil, take-append-drop, nil_from_length}
+use Rattle.std.proofs.lemmas.List.Elements.{All-head}
 use Rattle.pvp_types.specs.declared.command.Cmd.{Cmd}
 use Rattle.vr_types.specs.declared.event.EventOf.TheVariants.{Deliver, Timer, Beat, Crash, Restart}
 use Rattle.vr_types.specs.declared.event.SiteFault.{SiteFault}
@@ -29,9 +30,11 @@ use Rattle.pvp_parties.specs.declared.party.PartyEvent.{PartyEvent}
 use Rattle.pvp_parties.specs.declared.party.PartyEvent.TheVariants.{OfSite, OfNode, OfClient}
 use Rattle.pvp_parties.specs.declared.party.PartyOutcome.{PartyOutcome}
 use Rattle.pvp_parties.specs.declared.party.PartyOutcome.TheVariants.{OfSite as SiteTold, OfNode as NodeTold, OfClient as ClientTold, Stray}
-use Rattle.pvp_journal.specs.Spelling.{Entry, Envelope, stamped_envelope, command_request, event_text, site_number, node_number, client_number, why_number, frames_text, sent_text, outcome_text, body_text}
-use Rattle.pvp_journal.specs.Fits.{EventFits, FramesFit, SentFits, OutcomeFits, BodyFits}
-use Rattle.pvp_journal.specs.Reading.{Happened, stamped_at, is_of, sent_at, frames_from, all_sent_at, delivered_at, command_in, submitted_at, submits_at, pays_in_at, closes_at, event_at, site_fault_at, node_fault_at, client_fault_at, why_at, did_at, refused_at, fell_at, node_told_at, node_refused_at, client_told_at, client_refused_at, outcome_at, all_read, entry_at, body_at}
+use Rattle.pvp_journal.specs.declared.summary.Summary.{Summary}
+use Rattle.pvp_journal.specs.declared.summary.Summary.TheVariants.{Whole, Sent}
+use Rattle.pvp_journal.specs.Spelling.{Entry, Envelope, stamped_envelope, command_request, event_text, site_number, node_number, client_number, why_number, frames_text, sent_text, outcome_text, summary_text, body_text}
+use Rattle.pvp_journal.specs.Fits.{EventFits, FramesFit, SentFits, OutcomeFits, SummaryFits, BodyFits}
+use Rattle.pvp_journal.specs.Reading.{Happened, stamped_at, is_of, sent_at, frames_from, all_sent_at, delivered_at, command_in, submitted_at, submits_at, pays_in_at, closes_at, event_at, site_fault_at, node_fault_at, client_fault_at, why_at, did_at, refused_at, fell_at, node_told_at, node_refused_at, client_told_at, client_refused_at, outcome_at, summed_at, summary_at, all_read, entry_at, body_at}
 use Rattle.pvp_journal.proofs.Again.{stamped-again, all_sent-again, submitted-again, site-again, node-again, client-again, why-again}
 
 -- ---- frames
@@ -433,30 +436,60 @@ outcome-takes me clock (tag ∷ bytes) outcome rest fits e =
     by_tag tag 8 _ _ z Goal e8 (λ is r. complete me clock tag 8 bytes outcome rest is (stray-takes me clock bytes outcome rest bs r)) (λ e9.
     absurd (never z e9)))))))))
 
+-- ---- summaries
+
+SummaryTakes : ℕ → ℕ → List ℕ → Summary → List ℕ → Type 0
+SummaryTakes me clock bytes summary rest = Takes bytes (summary_text me clock summary) rest × SummaryFits me clock summary
+
+summed-takes : (me clock tag : ℕ) (bytes : List ℕ) (summary : Summary) (rest : List ℕ) → IsBytes bytes → tag ≡ 9 → summed_at bytes ≡ Ok (summary, rest)
+    → SummaryTakes me clock (tag ∷ bytes) summary rest
+unfolding SummaryTakes Numbered
+summed-takes me clock tag [] summary rest fits is e = absurd cc
+summed-takes me clock tag (count ∷ bytes) summary rest fits is e =
+    let m = bind_ok (why_at bytes) (λ dropped. Ok (Sent count dropped.0, dropped.1)) (summary, rest) e in
+    let why = why_numbered bytes m.0.0 m.0.1 (IsBytes-rest count bytes fits) m.1 in
+    let text = tagged tag (count ∷ bytes) (count ∷ why_number m.0.0 ∷ []) m.0.1 (tagged count bytes (why_number m.0.0 ∷ []) m.0.1 why.0) in
+    subst (λ (p : Summary × List ℕ). SummaryTakes me clock (tag ∷ count ∷ bytes) p.0 p.1) (ok_is (Sent count m.0.0, m.0.1) (summary, rest) m.2) (
+      subst (λ (n : ℕ). Takes (tag ∷ count ∷ bytes) (n ∷ count ∷ why_number m.0.0 ∷ []) m.0.1) is text,
+      All-head (λ (b : ℕ). b < 256) count bytes fits,
+    )
+
+summary-takes : (me clock : ℕ) (bytes : List ℕ) (summary : Summary) (rest : List ℕ) → IsBytes bytes → summary_at me clock bytes ≡ Ok (summary, rest)
+    → SummaryTakes me clock bytes summary rest
+unfolding summary_at SummaryTakes OutcomeTakes
+summary-takes me clock [] summary rest fits e = absurd cc
+summary-takes me clock (tag ∷ bytes) summary rest fits e =
+    let all = tag ∷ bytes in
+    by_tag tag 9 _ _ (summary, rest) (SummaryTakes me clock all summary rest) e
+    (λ is r. summed-takes me clock tag bytes summary rest (IsBytes-rest tag bytes fits) is r)
+    (λ other. let m = bind_ok (outcome_at me clock all) (λ found. Ok (Whole found.0, found.1)) (summary, rest) other in
+    let t = outcome-takes me clock all m.0.0 m.0.1 fits m.1 in
+    subst (λ (p : Summary × List ℕ). SummaryTakes me clock all p.0 p.1) (ok_is (Whole m.0.0, m.0.1) (summary, rest) m.2) t)
+
 -- ---- what a record says
 
 entry-takes : (me : ℕ) (bytes : List ℕ) (r : Entry) (rest : List ℕ) → IsBytes bytes → entry_at me bytes ≡ Ok (r, rest)
     → Takes bytes (body_text me r) rest × BodyFits me r
-unfolding entry_at EventTakes OutcomeTakes
+unfolding entry_at EventTakes SummaryTakes
 entry-takes me bytes r rest fits e =
     let m =
-    bind_ok (number_at 8 bytes) (λ clock. event_at me clock.0 clock.1 >>= λ event. outcome_at me clock.0 event.1 >>= λ outcome.
-    Ok (record { event = event.0.0; stamp = event.0.1; clock = clock.0; outcome = outcome.0 }, outcome.1)) (r, rest) e in
+    bind_ok (number_at 8 bytes) (λ clock. event_at me clock.0 clock.1 >>= λ event. summary_at me clock.0 event.1 >>= λ summary.
+    Ok (record { event = event.0.0; stamp = event.0.1; clock = clock.0; outcome = summary.0 }, summary.1)) (r, rest) e in
     let clock = m.0.0 in
     let k =
-    bind_ok (event_at me clock m.0.1) (λ event. outcome_at me clock event.1 >>= λ outcome.
-    Ok (record { event = event.0.0; stamp = event.0.1; clock = clock; outcome = outcome.0 }, outcome.1)) (r, rest) m.2 in
+    bind_ok (event_at me clock m.0.1) (λ event. summary_at me clock event.1 >>= λ summary.
+    Ok (record { event = event.0.0; stamp = event.0.1; clock = clock; outcome = summary.0 }, summary.1)) (r, rest) m.2 in
     let l =
-    bind_ok (outcome_at me clock k.0.1) (λ outcome. Ok (record { event = k.0.0.0; stamp = k.0.0.1; clock = clock; outcome = outcome.0 }, outcome.1))
+    bind_ok (summary_at me clock k.0.1) (λ summary. Ok (record { event = k.0.0.0; stamp = k.0.0.1; clock = clock; outcome = summary.0 }, summary.1))
     (r, rest) k.2 in
     let a = n8.takes bytes clock m.0.1 fits m.1 in
     let b = event-takes me clock m.0.1 k.0.0 k.0.1 a.0.rest_fits k.1 in
-    let c = outcome-takes me clock k.0.1 l.0.0 l.0.1 b.0.rest_fits l.1 in
+    let c = summary-takes me clock k.0.1 l.0.0 l.0.1 b.0.rest_fits l.1 in
     let read : Entry = record { event = k.0.0.0; stamp = k.0.0.1; clock = clock; outcome = l.0.0 } in
     let event = event_text me clock k.0.0.1 k.0.0.0 in
-    let outcome = outcome_text me clock l.0.0 in
+    let summary = summary_text me clock l.0.0 in
     let t : Takes bytes (body_text me read) l.0.1 =
-    Takes-then bytes (number 8 clock ++ event) k.0.1 outcome l.0.1 (Takes-then bytes (number 8 clock) m.0.1 event k.0.1 a.0 b.0) c.0 in
+    Takes-then bytes (number 8 clock ++ event) k.0.1 summary l.0.1 (Takes-then bytes (number 8 clock) m.0.1 event k.0.1 a.0 b.0) c.0 in
     subst (λ (p : Entry × List ℕ). Takes bytes (body_text me p.0) p.1 × BodyFits me p.0) (ok_is (read, l.0.1) (r, rest) l.2) (t, (a.1, b.1, c.1))
 
 pub body-takes : (me : ℕ) (bytes : List ℕ) (r : Entry) → IsBytes bytes → body_at me bytes ≡ Ok r → (bytes ≡ body_text me r) × BodyFits me r

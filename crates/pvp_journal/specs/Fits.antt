@@ -1,5 +1,5 @@
 -- What can be journaled.
-use Rattle.std.specs.Prelude.{◌≡◌, ℕ, ◌+◌, All, List, [], ◌∷◌, length, Option, Some, None, Ok, Err}
+use Rattle.std.specs.Prelude.{◌≡◌, ℕ, ◌+◌, ◌<◌, All, List, [], ◌∷◌, length, Option, Some, None, Ok, Err}
 use Rattle.vr_types.specs.declared.cell.Boot.{Boot}
 use Rattle.vr_types.specs.declared.event.EventOf.TheVariants.{Deliver, Timer, Beat, Crash, Restart}
 use Rattle.rtgs_node.specs.declared.event.NodeEvent.TheVariants as node_event
@@ -12,6 +12,8 @@ use Rattle.pvp_parties.specs.declared.party.PartyEvent.TheVariants.{OfSite, OfNo
 use Rattle.pvp_parties.specs.declared.party.PartyOutcome.{PartyOutcome}
 use Rattle.pvp_parties.specs.declared.party.PartyOutcome.TheVariants.{OfSite as SiteTold, OfNode as NodeTold, OfClient as ClientTold, Stray}
 use Rattle.pvp_journal.specs.declared.head.Head.{Head}
+use Rattle.pvp_journal.specs.declared.summary.Summary.{Summary}
+use Rattle.pvp_journal.specs.declared.summary.Summary.TheVariants.{Whole, Sent}
 use Rattle.pvp_journal.specs.Spelling.{Entry, Envelope, stamped_envelope, command_request, body_text}
 
 abbrev pub OpeningFits : Option Boot → Type 0
@@ -64,12 +66,16 @@ OutcomeFits me clock (ClientTold (Ok sent)) = SentFits me clock sent
 OutcomeFits me clock (ClientTold (Err fault)) = Unit {0}
 OutcomeFits me clock Stray = Unit {0}
 
--- what a record says fits: the clock, the event, the outcome
-abbrev pub BodyFits : ℕ → Entry → Type 0
-BodyFits me r = Fits 8 r.clock × EventFits me r.clock r.stamp r.event × OutcomeFits me r.clock r.outcome
+abbrev pub SummaryFits : ℕ → ℕ → Summary → Type 0
+SummaryFits me clock (Whole outcome) = OutcomeFits me clock outcome
+SummaryFits me clock (Sent count dropped) = count < 256
 
--- WHAT CAN BE JOURNALED by an actor: each frame has a spelling, those of what it sent with its own stamp, and the whole
--- is not too long
+-- what a record says fits: the clock, the event, the summary
+abbrev pub BodyFits : ℕ → Entry → Type 0
+BodyFits me r = Fits 8 r.clock × EventFits me r.clock r.stamp r.event × SummaryFits me r.clock r.outcome
+
+-- WHAT CAN BE JOURNALED by an actor: what stands there of the event and of the outcome has a spelling, and the whole is
+-- not too long
 pub record IsJournalable (me : ℕ) (r : Entry) : Type 0 where
   pub fits : BodyFits me r
   pub short : Fits 4 (length (body_text me r))

@@ -1,6 +1,10 @@
 pub mod Fault
 pub mod Spelling
+pub mod Summaries
 pub mod Fits
 pub mod Reading
 pub mod Journals
 pub mod Writing
+pub mod Log
+pub mod Rooms
+pub mod Resumed

@@ -31,7 +31,11 @@ use Rattle.pvp_parties.specs.declared.party.PartyOutcome.TheVariants.{OfSite as 
 use Rattle.pvp_journal.specs.declared.fault.JournalWhy.{JournalWhy}
 use Rattle.pvp_journal.specs.declared.fault.JournalWhy.TheVariants as whys
 use Rattle.pvp_journal.specs.declared.head.Head.{Head}
-use Rattle.pvp_journal.specs.Spelling.{Entry, Envelope, magic, version}
+use Rattle.pvp_journal.specs.declared.head.Version.{Version}
+use Rattle.pvp_journal.specs.declared.head.Version.TheVariants.{One, Two}
+use Rattle.pvp_journal.specs.declared.summary.Summary.{Summary}
+use Rattle.pvp_journal.specs.declared.summary.Summary.TheVariants.{Whole, Sent}
+use Rattle.pvp_journal.specs.Spelling.{Entry, Envelope, magic}
 
 -- ---- the head
 
@@ -48,12 +52,12 @@ abbrev pub bank_at : List ℕ → Reads (List ℕ)
 bank_at bytes = if nat_lt (length bytes) 32 then Err Length else Ok (take 32 bytes, drop 32 bytes)
 
 -- what stands behind the version
-unfoldable pub fields_at : List ℕ → Reads Head
-fields_at bytes = do
+unfoldable pub fields_at : Version → List ℕ → Reads Head
+fields_at version bytes = do
   actor ← number_at 2 bytes
   opening ← opening_at actor.1
   bank ← bank_at opening.1
-  Ok (record { actor = actor.0; opening = opening.0; bank = bank.0 }, bank.1)
+  Ok (record { version = version; actor = actor.0; opening = opening.0; bank = bank.0 }, bank.1)
 
 -- this number of so many bytes stands in front
 abbrev pub begins_with : ℕ → ℕ → List ℕ → Bool
@@ -64,12 +68,19 @@ abbrev pub in_head : Reads Head → Result (Head × List ℕ) JournalWhy
 in_head (Ok found) = Ok found
 in_head (Err fault) = Err whys.Head
 
+-- the version, and what stands behind it
+unfoldable pub versioned_at : List ℕ → Result (Head × List ℕ) JournalWhy
+versioned_at [] = Err whys.Version
+versioned_at (n ∷ bytes) =
+    if n == 1 then in_head (fields_at One bytes)
+    else if n == 2 then in_head (fields_at Two bytes)
+    else Err whys.Version
+
 -- THE HEAD at the front of bytes, and the bytes after it; else what is wrong, the first of these tests that fails
 unfoldable pub head_at : List ℕ → Result (Head × List ℕ) JournalWhy
 head_at bytes =
     if not (begins_with 4 magic bytes) then Err whys.Magic
-    else if not (begins_with 1 version (drop 4 bytes)) then Err whys.Version
-    else in_head (fields_at (drop 5 bytes))
+    else versioned_at (drop 4 bytes)
 
 -- ---- frames
 
@@ -235,19 +246,31 @@ outcome_at me clock (tag ∷ bytes) =
     else if tag == 8 then Ok (Stray, bytes)
     else Err Field
 
+-- how much was sent, and why the event was dropped
+abbrev pub summed_at : List ℕ → Reads Summary
+summed_at [] = Err Length
+summed_at (count ∷ bytes) = why_at bytes >>= λ dropped. Ok (Sent count dropped.0, dropped.1)
+
+-- that, or a whole outcome
+unfoldable pub summary_at : ℕ → ℕ → List ℕ → Reads Summary
+summary_at me clock [] = Err Length
+summary_at me clock (tag ∷ bytes) =
+    if tag == 9 then summed_at bytes
+    else (outcome_at me clock (tag ∷ bytes) >>= λ found. Ok (Whole found.0, found.1))
+
 -- ---- what a record says
 
 -- nothing may be left of it
 abbrev pub all_read : {A : Type 0} → A × List ℕ → Result A WireFault
 all_read x = if length x.1 == 0 then Ok x.0 else Err Length
 
--- its clock, its event, its outcome
+-- its clock, its event, its summary
 unfoldable pub entry_at : ℕ → List ℕ → Reads Entry
 entry_at me bytes = do
   clock ← number_at 8 bytes
   event ← event_at me clock.0 clock.1
-  outcome ← outcome_at me clock.0 event.1
-  Ok (record { event = event.0.0; stamp = event.0.1; clock = clock.0; outcome = outcome.0 }, outcome.1)
+  summary ← summary_at me clock.0 event.1
+  Ok (record { event = event.0.0; stamp = event.0.1; clock = clock.0; outcome = summary.0 }, summary.1)
 
 -- WHAT THESE BYTES SAY, all of them
 unfoldable pub body_at : ℕ → List ℕ → Result Entry WireFault

@@ -30,10 +30,15 @@ use Rattle.pvp_parties.specs.declared.party.PartyEvent.TheVariants.{OfSite, OfNo
 use Rattle.pvp_parties.specs.declared.party.PartyOutcome.{PartyOutcome}
 use Rattle.pvp_parties.specs.declared.party.PartyOutcome.TheVariants.{OfSite as SiteTold, OfNode as NodeTold, OfClient as ClientTold, Stray}
 use Rattle.pvp_journal.specs.declared.head.Head.{Head}
+use Rattle.pvp_journal.specs.declared.head.Version.{Version}
+use Rattle.pvp_journal.specs.declared.head.Version.TheVariants.{One, Two}
+use Rattle.pvp_journal.specs.declared.summary.Summary.{Summary}
+use Rattle.pvp_journal.specs.declared.summary.Summary.TheVariants.{Whole, Sent}
 
--- what a room keeps of one event: its clock, what happened, the stamp of what was delivered, how it came out
+-- what a journal keeps of one event: its clock, what happened, the stamp of what was delivered, and a summary of how it
+-- came out
 abbrev pub Entry : Type 0
-Entry = Recorded PartyEvent PartyOutcome
+Entry = Recorded PartyEvent Summary
 
 abbrev pub Envelope : Type 0
 Envelope = EnvelopeOf Cmd replies.Reply orders.PayOrder
@@ -48,18 +53,21 @@ checksum before bytes = big_number 8 (sha256 (number 8 before ++ bytes))
 abbrev pub magic : ℕ
 magic = 0x5056504a
 
--- the version of this format
-abbrev pub version : ℕ
-version = 1
+-- the versions of this format
+abbrev pub version_number : Version → ℕ
+version_number One = 1
+version_number Two = 2
 
 -- 0, or 1 and the boots that a site's cell held
 abbrev pub opening_text : Option Boot → List ℕ
 opening_text None = 0 ∷ []
 opening_text (Some boot) = 1 ∷ number 4 boot.boots
 
--- THE HEAD: whose journal it is, what it opened over, the bank's id
+-- THE HEAD: the version, whose journal it is, what it opened over, the bank's id
 abbrev pub head_text : Head → List ℕ
-head_text head = number 4 magic ++ number 1 version ++ number 2 head.actor ++ opening_text head.opening ++ head.bank
+head_text head =
+    number 4 magic ++ (version_number head.version ∷ []) ++ number 2 head.actor ++ opening_text head.opening
+    ++ head.bank
 
 -- ---- events, each kind by a tag of its own
 
@@ -152,11 +160,16 @@ outcome_text me clock (ClientTold (Ok sent)) = 6 ∷ sent_text me clock sent
 outcome_text me clock (ClientTold (Err fault)) = 7 ∷ client_number fault ∷ []
 outcome_text me clock Stray = 8 ∷ []
 
+-- a whole outcome, or how much was sent and why the event was dropped
+abbrev pub summary_text : ℕ → ℕ → Summary → List ℕ
+summary_text me clock (Whole outcome) = outcome_text me clock outcome
+summary_text me clock (Sent count dropped) = 9 ∷ count ∷ why_number dropped ∷ []
+
 -- ---- records
 
--- what a record says: the clock, the event, the outcome
+-- what a record says: the clock, the event, the summary
 abbrev pub body_text : ℕ → Entry → List ℕ
-body_text me r = number 8 r.clock ++ event_text me r.clock r.stamp r.event ++ outcome_text me r.clock r.outcome
+body_text me r = number 8 r.clock ++ event_text me r.clock r.stamp r.event ++ summary_text me r.clock r.outcome
 
 -- the greatest number of four bytes
 abbrev pub greatest_u32 : ℕ

@@ -9,7 +9,7 @@ use std::fmt;
 pub enum JournalWhy {
     /// M1: they do not begin with the letters PVPJ.
     Magic,
-    /// M2: the version is not 1.
+    /// M2: the version is neither 1 nor 2.
     Version,
     /// M3: the head is cut off, or the flag of its opening is not 0 or 1.
     Head,
@@ -33,7 +33,7 @@ pub struct JournalFault {
 /// Why an event has no record.
 #[derive(Clone, Copy, Debug, PartialEq, Eq)]
 pub enum WriteFault {
-    /// M8: it cannot be journaled. An envelope has no spelling, a delivery has no stamp or another event has one, or
+    /// M8: it cannot be journaled. What was delivered has no spelling or no stamp, another event has one, or
     /// the record would have more than 4,294,967,295 bytes.
     Unfit,
     /// M9: memory was refused.

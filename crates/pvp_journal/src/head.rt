@@ -1,7 +1,8 @@
 //! The head of a journal.
-ghost use Rattle.std.specs.Prelude.{◌≡◌};
+ghost use Rattle.std.specs.Prelude.{◌≡◌, Ok, Err, IfOk, OnErr};
 ghost use Rattle.pvp_wire.specs.Reading.{Finds};
-ghost use Rattle.pvp_journal.specs.Reading.{opening_at, bank_at, fields_at, head_at};
+ghost use Rattle.pvp_journal.specs.declared.fault.JournalWhy.TheVariants.{Head as BadHead};
+ghost use Rattle.pvp_journal.specs.Reading.{opening_at, bank_at, fields_at, versioned_at, head_at};
 
 use crate::fault::JournalWhy;
 use byteorder::{BigEndian, ByteOrder};
@@ -12,11 +13,18 @@ use vr_types::Boot;
 pub(crate) const MAGIC: u32 = 0x5056_504a;
 
 /// The version of the format.
-pub(crate) const VERSION: u8 = 1;
+#[derive(Clone, Copy, Debug, PartialEq, Eq)]
+pub enum Version {
+    /// Each record has all that its event sent. It is read, and no longer written.
+    One,
+    /// What an event sent is summed up.
+    Two,
+}
 
 /// Whose journal it is.
 #[derive(Clone, Copy, Debug, PartialEq, Eq)]
 pub struct Head {
+    pub version: Version,
     /// The number of the actor.
     pub actor: u16,
     /// What it opened over: at a site what its cell held.
@@ -28,7 +36,7 @@ pub struct Head {
 /// Reads the head at the front of the bytes, and answers the bytes after it. It takes no memory.
 ///
 /// Of several faults the first is returned: M1 fewer than four bytes, or others than PVPJ; M2 no
-/// version, or another than 1; M3 the bytes end within the head, or its opening has another flag
+/// version, or another than 1 and 2; M3 the bytes end within the head, or its opening has another flag
 /// than 0 and 1.
 #[tactic(auto, unfolding(crate::specs::Reading::head_at))]
 pub(crate) fn head_at(bytes: &[u8]) -> Result<(Head, &[u8]), JournalWhy>
@@ -37,10 +45,27 @@ pub(crate) fn head_at(bytes: &[u8]) -> Result<(Head, &[u8]), JournalWhy>
     if bytes.len() < 4 || BigEndian::read_u32(bytes) != MAGIC {
         return Err(JournalWhy::Magic);
     }
-    if bytes.len() < 5 || bytes[4] != VERSION {
-        return Err(JournalWhy::Version);
+    versioned_at(&bytes[4..])
+}
+
+/// The version, and what stands behind it.
+#[tactic(auto, unfolding(crate::specs::Reading::versioned_at))]
+fn versioned_at(bytes: &[u8]) -> Result<(Head, &[u8]), JournalWhy>
+    ensures { Finds (λ x. (x.0, x.1.now)) result (versioned_at bytes.now) }
+{
+    match bytes {
+        [1, rest @ ..] => in_head(fields_at(Version::One, rest)),
+        [2, rest @ ..] => in_head(fields_at(Version::Two, rest)),
+        _ => Err(JournalWhy::Version),
     }
-    match fields_at(&bytes[5..]) {
+}
+
+/// What was found in a head, or a fault within it.
+fn in_head<T>(found: Result<T, WireFault>) -> Result<T, JournalWhy>
+    ensures ok { IfOk found (λ x. result ≡ Ok x) }
+    ensures err { OnErr found (result ≡ Err BadHead) }
+{
+    match found {
         Ok(found) => Ok(found),
         Err(_) => Err(JournalWhy::Head),
     }
@@ -48,13 +73,14 @@ pub(crate) fn head_at(bytes: &[u8]) -> Result<(Head, &[u8]), JournalWhy>
 
 /// What stands behind the version.
 #[tactic(auto, unfolding(crate::specs::Reading::fields_at))]
-fn fields_at(bytes: &[u8]) -> Result<(Head, &[u8]), WireFault>
-    ensures { Finds (λ x. (x.0, x.1.now)) result (fields_at bytes.now) }
+fn fields_at(version: Version, bytes: &[u8]) -> Result<(Head, &[u8]), WireFault>
+    ensures { Finds (λ x. (x.0, x.1.now)) result (fields_at version bytes.now) }
 {
     let (actor, rest) = u16_at(bytes)?;
     let (opening, rest) = opening_at(rest)?;
     let (bank, rest) = bank_at(rest)?;
     let head = Head {
+        version,
         actor,
         opening,
         bank,

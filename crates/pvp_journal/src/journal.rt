@@ -8,15 +8,17 @@ use crate::events::event_at;
 use crate::fault::{JournalFault, JournalWhy};
 use crate::front::{Front, front_at};
 use crate::head::{Head, head_at};
-use crate::outcomes::outcome_at;
+use crate::outcomes::summary_at;
+use crate::summary::Summary;
 use crate::sums::checksum;
-use pvp_parties::{PartyEvent, PartyOutcome};
+use pvp_parties::PartyEvent;
 use pvp_rooms::Recorded;
 use pvp_wire::{WireFault, u64_at};
 use std::alloc::Global;
 
-/// What a room keeps of an event: the event, the stamp of what was delivered, the clock, and how it came out.
-pub type Entry = Recorded<PartyEvent, PartyOutcome>;
+/// What a journal keeps of an event: the event, the stamp of what was delivered, the clock, and a summary of how it came
+/// out.
+pub type Entry = Recorded<PartyEvent, Summary>;
 
 /// What is left of a journal's bytes behind its last whole record.
 #[derive(Clone, Copy, Debug, PartialEq, Eq)]
@@ -164,14 +166,14 @@ fn body_at(alloc: Global, me: u16, bytes: &[u8]) -> Result<Entry, WireFault>
     Ok(entry)
 }
 
-/// The clock, the event and the outcome in front.
+/// The clock, the event and the summary in front.
 #[tactic(auto, unfolding(crate::specs::Reading::entry_at))]
 fn entry_at(alloc: Global, me: u16, bytes: &[u8]) -> Result<(Entry, &[u8]), WireFault>
     ensures { Tells (λ x. (x.0, x.1.now)) result (entry_at me bytes.now) }
 {
     let (clock, rest) = u64_at(bytes)?;
     let ((event, stamp), rest) = event_at(alloc, me, clock, rest)?;
-    let (outcome, rest) = outcome_at(alloc, me, clock, rest)?;
+    let (outcome, rest) = summary_at(alloc, me, clock, rest)?;
     let entry = Recorded {
         event,
         stamp,

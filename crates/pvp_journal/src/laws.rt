@@ -1,14 +1,19 @@
-//! What holds of journals: functions that do nothing, whose contracts say it.
-ghost use Rattle.std.specs.Prelude.{◌≡◌, ◌≢◌, ◌+◌, ◌≤◌, ℕ, List, [], ◌∷◌, ◌++◌, length, take};
+//! What holds of journals, and of what goes on from them: functions that do nothing, whose contracts say it.
+ghost use Rattle.std.specs.Prelude.{List, [], length, map, take, ℕ, ◌++◌, ◌+◌, ◌∷◌, ◌≡◌, ◌≢◌, ◌≤◌};
 ghost use Rattle.pvp_wire.specs.Spelling.{number};
 ghost use Rattle.pvp_wire.specs.Fits.{Fits, IsBytes};
 ghost use Rattle.pvp_journal.specs.declared.fault.JournalWhy.{JournalWhy};
 ghost use Rattle.pvp_journal.specs.declared.fault.JournalWhy.TheVariants as why;
 ghost use Rattle.pvp_journal.specs.declared.head.Head.{Head};
 ghost use Rattle.pvp_journal.specs.declared.journal.Left.{Left};
-ghost use Rattle.pvp_journal.specs.Spelling.{Entry, checksum, greatest_u32, with_length, head_text, record_text, record_sum, journal_text, journal_sum};
+ghost use Rattle.pvp_journal.specs.Spelling.{Entry, checksum, greatest_u32, head_sum, head_text, journal_sum, journal_text, record_sum, record_text, with_length};
 ghost use Rattle.pvp_journal.specs.Fits.{AreJournalable};
-ghost use Rattle.pvp_journal.specs.Journals.{Place, ReadsAs, NoRecord, IsCutBehind, IsLeft, IsWrong, IsPartial, CutOff, Damaged, front_at};
+ghost use Rattle.pvp_journal.specs.Journals.{CutOff, Damaged, IsCutBehind, IsLeft, IsPartial, IsRead, IsWrong, NoRecord, Place, ReadsAs, front_at};
+ghost use Rattle.pvp_journal.specs.declared.journal.Journal.{Journal};
+ghost use Rattle.pvp_journal.specs.declared.journal.Left.TheVariants.{Nothing};
+ghost use Rattle.pvp_journal.specs.Summaries.{Taken, entry_of};
+ghost use Rattle.pvp_journal.specs.Log.{MayLeave};
+ghost use Rattle.pvp_journal.specs.Rooms.{bank_texts, records};
 
 /// What a head and a history are spelled as reads as that head and that history, with nothing left behind it.
 pub fn whole_reads_back()
@@ -85,4 +90,29 @@ pub fn grows()
     ensures sum { (head : Head) (history : List Entry) (r : Entry) →
         journal_sum head (history ++ r ∷ []) ≡
         record_sum head.actor (journal_sum head history) r }
+{}
+
+/// A log that begins with a head and holds the records of a history behind it is the journal of its entries.
+pub fn is_a_journal()
+    ensures { (head : Head) (history : List Taken) →
+        head_text head ++ records (bank_texts head.actor) (head_sum head) history
+        ≡ journal_text head (map entry_of history) }
+{}
+
+/// What a power cut leaves of such a log, where its head was synced, reads as a front of the
+/// history, with what is left reported as torn and never as damaged.
+pub fn after_a_cut()
+    ensures { (head : Head) (history : List Entry) (synced : ℕ) (left : List ℕ) →
+        AreJournalable head history →
+        length (head_text head) ≤ synced → MayLeave (journal_text head history) synced left →
+        IsCutBehind left head history }
+{}
+
+/// A log that holds a journal which was read to the end of its bytes, and behind it the records of what was taken since,
+/// holds the journal of both.
+pub fn what_goes_on()
+    ensures { (bytes : List ℕ) (journal : Journal) (later : List Taken) → IsBytes bytes →
+        IsRead bytes journal → journal.left ≡ Nothing →
+        bytes ++ records (bank_texts journal.head.actor) journal.sum later
+        ≡ journal_text journal.head (journal.history.items ++ map entry_of later) }
 {}

@@ -1,9 +1,10 @@
 //! How a record says that an event came out.
 ghost use Rattle.std.specs.Prelude.{◌≡◌};
 ghost use Rattle.pvp_wire.specs.Reading.{Finds};
-ghost use Rattle.pvp_journal.specs.Reading.{Tells, site_fault_at, node_fault_at, client_fault_at, why_at, did_at, refused_at, fell_at, node_told_at, node_refused_at, client_told_at, client_refused_at, outcome_at};
+ghost use Rattle.pvp_journal.specs.Reading.{Tells, site_fault_at, node_fault_at, client_fault_at, why_at, did_at, refused_at, fell_at, node_told_at, node_refused_at, client_told_at, client_refused_at, outcome_at, summed_at, summary_at};
 
 use crate::sent::all_sent_at;
+use crate::summary::Summary;
 use headline::ClientFault;
 use pvp_parties::PartyOutcome;
 use pvp_rooms::CameOf;
@@ -12,9 +13,46 @@ use rtgs_node::NodeFault;
 use std::alloc::Global;
 use vr_types::{Boot, SiteFault, Why};
 
+/// A summary: its tag, then its fields.
+#[tactic(auto, unfolding(crate::specs::Reading::summary_at))]
+pub(crate) fn summary_at(
+    alloc: Global,
+    me: u16,
+    clock: u64,
+    bytes: &[u8],
+) -> Result<(Summary, &[u8]), WireFault>
+    ensures { Tells (λ x. (x.0, x.1.now)) result (summary_at me clock bytes.now) }
+{
+    match bytes {
+        [] => Err(WireFault::Length),
+        [9, rest @ ..] => summed_at(rest),
+        [_, ..] => {
+            let (outcome, rest) = outcome_at(alloc, me, clock, bytes)?;
+            Ok((Summary::Whole(outcome), rest))
+        }
+    }
+}
+
+/// How much was sent, and why the event was dropped.
+fn summed_at(bytes: &[u8]) -> Result<(Summary, &[u8]), WireFault>
+    ensures { Finds (λ x. (x.0, x.1.now)) result (summed_at bytes.now) }
+{
+    let [count, rest @ ..] = bytes else {
+        return Err(WireFault::Length);
+    };
+    let (dropped, rest) = why_at(rest)?;
+    Ok((
+        Summary::Sent {
+            count: *count,
+            dropped,
+        },
+        rest,
+    ))
+}
+
 /// An outcome: its tag, then its fields.
 #[tactic(auto, unfolding(crate::specs::Reading::outcome_at))]
-pub(crate) fn outcome_at(
+fn outcome_at(
     alloc: Global,
     me: u16,
     clock: u64,

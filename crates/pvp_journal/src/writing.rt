@@ -1,16 +1,17 @@
 //! Writing a journal: heads and records, each put at the end of bytes as a whole or not at all.
-ghost use Rattle.std.specs.Prelude.{◌≡◌, ◌++◌, ◌∷◌, [], length, None, Err, OnOk, OnErr, IfOk};
+ghost use Rattle.std.specs.Prelude.{◌≡◌, ◌++◌, ◌∷◌, ℕ, [], length, map, None, Err, OnOk, OnErr, IfOk};
 ghost use Rattle.pvp_wire.specs.Spelling.{number, spelling};
 ghost use Rattle.pvp_wire.specs.Fits.{Fits, IsSpelled};
 ghost use Rattle.pvp_journal.specs.declared.fault.WriteFault.TheVariants.{Unfit};
-ghost use Rattle.pvp_journal.specs.Fits.{AreJournalable, IsHead, OpeningFits, DeliveryFits, EventFits, FramesFit, SentFits, OutcomeFits, BodyFits, IsJournalable};
+ghost use Rattle.pvp_journal.specs.Fits.{AreJournalable, IsHead, OpeningFits, DeliveryFits, EventFits, SummaryFits, BodyFits, IsJournalable};
 ghost use Rattle.pvp_journal.specs.Spelling as spell;
+ghost use Rattle.pvp_journal.specs.Summaries.{count_of, entry_of, summary_of};
 ghost use Rattle.pvp_journal.specs.Writing.{Puts};
 
 use crate::fault::WriteFault;
-use crate::head::{Head, MAGIC, VERSION};
-use crate::journal::Entry;
+use crate::head::{Head, MAGIC, Version};
 use crate::sent::{BankEnvelope, BankSent};
+use crate::summary::{Taken, count_of};
 use crate::sums::checksum;
 use byteorder::{BigEndian, ByteOrder};
 use headline::{ClientEvent, ClientFault};
@@ -41,18 +42,18 @@ pub fn write_head(alloc: Global, head: &Head, out: &mut Vec<u8>) -> Result<u64, 
 pub fn write_journal(
     alloc: Global,
     head: &Head,
-    history: &[Entry],
+    history: &[Taken],
     out: &mut Vec<u8>,
 ) -> Result<(), WriteFault>
     ensures written { OnOk result
-        (out.new.items ≡ out.old.items ++ spell.journal_text head.now history.now) }
+        (out.new.items ≡ out.old.items ++ spell.journal_text head.now (map entry_of history.now)) }
     // So `read_journal` reads it again.
-    ensures journalable { OnOk result (AreJournalable head.now history.now) }
-    ensures unfit { result ≡ Err Unfit → AreJournalable head.now history.now → ⊥ }
+    ensures journalable { OnOk result (AreJournalable head.now (map entry_of history.now)) }
+    ensures unfit { result ≡ Err Unfit → AreJournalable head.now (map entry_of history.now) → ⊥ }
 {
     let mut sum = write_head(alloc, head, out)?;
-    for entry in history {
-        sum = write_record(alloc, head.actor, sum, entry, out)?;
+    for taken in history {
+        sum = write_record(alloc, head.actor, sum, taken, out)?;
     }
     Ok(())
 }
@@ -63,20 +64,19 @@ pub fn write_record(
     alloc: Global,
     me: u16,
     before: u64,
-    entry: &Entry,
+    taken: &Taken,
     out: &mut Vec<u8>,
 ) -> Result<u64, WriteFault>
     ensures written { OnOk result
-        (out.new.items ≡ out.old.items ++ spell.record_text me before entry.now) }
-    ensures sum { IfOk result (λ sum. sum ≡ spell.record_sum me before entry.now) }
+        (out.new.items ≡ out.old.items ++ spell.record_text me before (entry_of taken.now)) }
+    ensures sum { IfOk result (λ sum. sum ≡ spell.record_sum me before (entry_of taken.now)) }
     // So `read_journal` reads it again.
-    ensures journalable { OnOk result (IsJournalable me entry.now) }
-
-    ensures unfit { result ≡ Err Unfit → IsJournalable me entry.now → ⊥ }
+    ensures journalable { OnOk result (IsJournalable me (entry_of taken.now)) }
+    ensures unfit { result ≡ Err Unfit → IsJournalable me (entry_of taken.now) → ⊥ }
     ensures err { OnErr result (out.new.items ≡ out.old.items) }
 {
     let mut body = Vec::new(alloc);
-    put_body(alloc, me, entry, &mut body)?;
+    put_body(alloc, me, taken, &mut body)?;
     let Ok(length) = u32::try_from(body.len()) else {
         return Err(WriteFault::Unfit);
     };
@@ -96,10 +96,20 @@ fn put_head(head: &Head, out: &mut Vec<u8>) -> Result<(), AllocError>
     ensures head { OnOk result (IsHead head.now) }
 {
     put_u32(MAGIC, out)?;
-    put_u8(VERSION, out)?;
+    put_tag(version_number(head.version), out)?;
     put_u16(head.actor, out)?;
     put_opening(head.opening, out)?;
     out.extend_from_slice(head.bank.as_slice())
+}
+
+/// The number of a version.
+fn version_number(version: Version) -> u8
+    ensures { result ≡ spell.version_number version }
+{
+    match version {
+        Version::One => 1,
+        Version::Two => 2,
+    }
 }
 
 /// 0, or 1 and the boots that a site's cell held.
@@ -124,13 +134,6 @@ fn put_tag(tag: u8, out: &mut Vec<u8>) -> Result<(), AllocError>
 }
 
 #[tactic(auto, unfolding(pvp_wire::specs::Spelling::number))]
-fn put_u8(value: u8, out: &mut Vec<u8>) -> Result<(), AllocError>
-    ensures { OnOk result (out.new.items ≡ out.old.items ++ number 1 value) }
-{
-    out.extend_from_slice(&[value])
-}
-
-#[tactic(auto, unfolding(pvp_wire::specs::Spelling::number))]
 fn put_u16(value: u16, out: &mut Vec<u8>) -> Result<(), AllocError>
     ensures { OnOk result (out.new.items ≡ out.old.items ++ number 2 value) }
 {
@@ -150,23 +153,24 @@ fn put_u32(value: u32, out: &mut Vec<u8>) -> Result<(), AllocError>
 
 #[tactic(auto, unfolding(pvp_wire::specs::Spelling::number))]
 fn put_u64(value: u64, out: &mut Vec<u8>) -> Result<(), AllocError>
-    ensures { OnOk result (out.new.items ≡ out.old.items ++ number 8 value) }
+    ensures text { OnOk result (out.new.items ≡ out.old.items ++ number 8 value) }
+    ensures fits { Fits 8 value }
 {
     let mut field = [0; 8];
     BigEndian::write_u64(&mut field, value);
     out.extend_from_slice(&field)
 }
 
-/// The clock, the event and the outcome.
-fn put_body(alloc: Global, me: u16, entry: &Entry, out: &mut Vec<u8>) -> Result<(), WriteFault>
+/// The clock, the event and the summary of the outcome.
+fn put_body(alloc: Global, me: u16, taken: &Taken, out: &mut Vec<u8>) -> Result<(), WriteFault>
     ensures { Puts out.old.items
-        (spell.body_text me entry.now)
-        (BodyFits me entry.now)
+        (spell.body_text me (entry_of taken.now))
+        (BodyFits me (entry_of taken.now))
         result out.new.items }
 {
-    put_u64(entry.clock, out)?;
-    put_event(alloc, me, entry.clock, entry.stamp, &entry.event, out)?;
-    put_outcome(alloc, me, entry.clock, &entry.outcome, out)
+    put_u64(taken.clock, out)?;
+    put_event(alloc, me, taken.clock, taken.stamp, &taken.event, out)?;
+    put_summary(&taken.outcome, out)
 }
 
 /// The frame of an envelope.
@@ -330,34 +334,25 @@ fn put_submits(
     put_frame(&asked, out)
 }
 
-/// An outcome: its tag, then its fields.
-fn put_outcome(
-    alloc: Global,
-    me: u16,
-    clock: u64,
-    outcome: &PartyOutcome,
-    out: &mut Vec<u8>,
-) -> Result<(), WriteFault>
-    ensures { Puts out.old.items
-        (spell.outcome_text me clock outcome.now)
-        (OutcomeFits me clock outcome.now)
+/// The summary of an outcome: its tag, then its fields.
+fn put_summary(outcome: &PartyOutcome, out: &mut Vec<u8>) -> Result<(), WriteFault>
+    ensures { (me clock : ℕ) → Puts out.old.items
+        (spell.summary_text me clock (summary_of outcome.now))
+        (SummaryFits me clock (summary_of outcome.now))
         result out.new.items }
 {
     match outcome {
-        PartyOutcome::OfSite(came) => match came {
-            CameOf::Did { sent, dropped } => {
-                put_sent(alloc, 1, me, clock, sent, out)?;
-                put_tag(why_number(*dropped), out)?;
-            }
-            CameOf::Refused(fault) => put_tags(2, site_number(*fault), out)?,
-            CameOf::Fell { why, cell } => {
-                put_tags(3, site_number(*why), out)?;
-                put_u32(cell.boots, out)?;
-            }
-        },
-        PartyOutcome::OfNode(Ok(sent)) => put_sent(alloc, 4, me, clock, sent, out)?,
+        PartyOutcome::OfSite(CameOf::Did { sent, dropped }) => {
+            put_sent(sent, why_number(*dropped), out)?;
+        }
+        PartyOutcome::OfSite(CameOf::Refused(fault)) => put_tags(2, site_number(*fault), out)?,
+        PartyOutcome::OfSite(CameOf::Fell { why, cell }) => {
+            put_tags(3, site_number(*why), out)?;
+            put_u32(cell.boots, out)?;
+        }
+        PartyOutcome::OfNode(Ok(sent)) => put_sent(sent, why_number(None), out)?,
         PartyOutcome::OfNode(Err(fault)) => put_tags(5, node_number(*fault), out)?,
-        PartyOutcome::OfClient(Ok(sent)) => put_sent(alloc, 6, me, clock, sent, out)?,
+        PartyOutcome::OfClient(Ok(sent)) => put_sent(sent, why_number(None), out)?,
         PartyOutcome::OfClient(Err(fault)) => put_tags(7, client_number(*fault), out)?,
         PartyOutcome::Stray => put_tag(8, out)?,
     }
@@ -371,53 +366,11 @@ fn put_tags(tag: u8, which: u8, out: &mut Vec<u8>) -> Result<(), AllocError>
     out.extend_from_slice(&[tag, which])
 }
 
-/// A tag, how many envelopes were sent, and their frames.
-fn put_sent(
-    alloc: Global,
-    tag: u8,
-    me: u16,
-    clock: u64,
-    sent: &BankSent,
-    out: &mut Vec<u8>,
-) -> Result<(), WriteFault>
-    ensures { Puts out.old.items
-        (tag ∷ spell.sent_text me clock sent.now)
-        (SentFits me clock sent.now)
-        result out.new.items }
+/// How much was sent, and the number of why the event was dropped.
+fn put_sent(sent: &BankSent, why: u8, out: &mut Vec<u8>) -> Result<(), AllocError>
+    ensures { OnOk result (out.new.items ≡ out.old.items ++ 9 ∷ count_of sent.now ∷ why ∷ []) }
 {
-    let Ok(count) = u32::try_from(sent.len()) else {
-        return Err(WriteFault::Unfit);
-    };
-    put_tag(tag, out)?;
-    put_u32(count, out)?;
-    put_frames(alloc, me, clock, sent.as_slice(), out)
-}
-
-/// The frames of envelopes that were sent.
-fn put_frames(
-    alloc: Global,
-    me: u16,
-    clock: u64,
-    sent: &[BankEnvelope],
-    out: &mut Vec<u8>,
-) -> Result<(), WriteFault>
-    requires { Fits 4 (length sent.now) }
-    ensures { Puts out.old.items
-        (spell.frames_text me clock 0 sent.now)
-        (FramesFit me clock 0 sent.now)
-        result out.new.items }
-{
-    let mut index = 0;
-    for envelope in sent {
-        let stamp = Stamp {
-            actor: me,
-            clock,
-            index,
-        };
-        put_stamped(alloc, stamp, envelope, out)?;
-        index += 1;
-    }
-    Ok(())
+    out.extend_from_slice(&[9, count_of(sent.as_slice()), why])
 }
 
 /// The number of a site's fault.

@@ -6,7 +6,7 @@ use Rattle.pvp_rooms.specs.declared.message.Answer.{Answer}
 use Rattle.pvp_rooms.specs.declared.message.Answer.TheVariants.{Done, NoMemory, ClockSpent}
 use Rattle.pvp_rooms.specs.Rooms.{receipts_after}
 use Rattle.pvp_rooms.specs.Seats.{Place}
-use Rattle.pvp_peers.specs.Puts.{Put}
+use Rattle.pvp_links.specs.Puts.{Put}
 use Rattle.pvp_parties.specs.declared.party.PartyOutcome.{PartyOutcome}
 use Rattle.pvp_live.specs.declared.events.Post.{Post}
 use Rattle.pvp_live.specs.declared.refusals.Refused.{Refused}

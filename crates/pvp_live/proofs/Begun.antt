@@ -6,8 +6,8 @@ use Rattle.pvp_types.specs.Setup.{faults}
 use Rattle.vr_types.specs.declared.cell.Boot.{Boot}
 use Rattle.vr_types.specs.Cell.{is_new, new_cell}
 use Rattle.headline.proofs.Basics.{and_left, and_right}
-use Rattle.pvp_judge.specs.Banked.{IsTheBank}
-use Rattle.pvp_judge.specs.Judged.{Left, openings}
+use Rattle.pvp_audit.specs.Banked.{IsTheBank}
+use Rattle.pvp_audit.specs.Judged.{Left, openings}
 use Rattle.pvp_live.specs.Bank.{BeganNew, opened_new}
 
 -- one actor's opening, before those of others

@@ -3,7 +3,7 @@ use Rattle.std.proofs.Common.{◌≡◌, ℕ, ◌+◌, ◌<◌, List, [], ◌∷
 use Rattle.std.proofs.lemmas.List.{take_more}
 use Rattle.pvp_rooms.specs.Seats.{Place}
 use Rattle.pvp_rooms.proofs.Hearing.{hears_none, hears_more}
-use Rattle.pvp_peers.specs.Puts.{Put}
+use Rattle.pvp_links.specs.Puts.{Put}
 use Rattle.pvp_text.specs.declared.script.Line.{Line}
 use Rattle.pvp_live.specs.Events.{statement_post}
 use Rattle.pvp_live.specs.Playing.{Kept, PostsWhere, Plays, HandsOver, IsPlaying}

@@ -11,8 +11,8 @@ use Rattle.vr_types.proofs.ChoosingPick.{Contains-none, Contains-here, Contains-
 use Rattle.pvp_rooms.specs.Closing.{fresh_seats}
 use Rattle.pvp_rooms.specs.Seats.{Place}
 use Rattle.vr_types.specs.declared.cell.BootCell.{Ghosts as Cell}
-use Rattle.pvp_judge.specs.Judged.{Left}
-use Rattle.pvp_judge.specs.Cells.{LeftOver, AreInMemory}
+use Rattle.pvp_audit.specs.Judged.{Left}
+use Rattle.pvp_audit.specs.Cells.{LeftOver, AreInMemory}
 use Rattle.pvp_live.specs.Seating.{BankSeat, AreNew, IsAmong, TakesBack, TakesOne, IsKeptSeat, Keeps}
 
 -- ---- new seats

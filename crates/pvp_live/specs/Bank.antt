@@ -6,7 +6,7 @@ use Rattle.pvp_types.specs.declared.setup.Setup.{Setup}
 use Rattle.pvp_types.specs.Setup.{faults}
 use Rattle.vr_types.specs.declared.actors.TheConstants.{FIRST_NODE, FIRST_SITE}
 use Rattle.vr_types.specs.Cell.{new_cell, is_new}
-use Rattle.pvp_judge.specs.Judged.{Left, openings}
+use Rattle.pvp_audit.specs.Judged.{Left, openings}
 
 -- the operator and the members, the nodes, the sites
 abbrev pub numbers_of : Setup → List ℕ

@@ -2,12 +2,12 @@
 use Rattle.std.specs.Prelude.{ℕ, ◌+◌, ◌-◌, ◌^◌, min, Bool, true, false, not, List, [], ◌∷◌, ◌++◌, length, option_to_list, Option, Some, None, codes, decimal}
 use Rattle.std.specs.List.{sum_by, count_by, flat_map}
 use Rattle.pvp_types.specs.declared.setup.Setup.{Setup}
-use Rattle.pvp_peers.specs.declared.peer.PeerEnd.{PeerEnd}
-use Rattle.pvp_peers.specs.declared.peer.StreamEnd.{StreamEnd}
-use Rattle.pvp_peers.specs.declared.peer.StreamEnd.TheVariants.{End}
-use Rattle.pvp_streams.specs.declared.peer.Peer.{Peer}
+use Rattle.pvp_links.specs.declared.peer.PeerEnd.{PeerEnd}
+use Rattle.pvp_links.specs.declared.peer.StreamEnd.{StreamEnd}
+use Rattle.pvp_links.specs.declared.peer.StreamEnd.TheVariants.{End}
+use Rattle.pvp_links.specs.declared.incoming.Peer.{Peer}
 use Rattle.pvp_parties.specs.Parties.{sent_envelopes}
-use Rattle.pvp_judge.specs.Judged.{Left}
+use Rattle.pvp_audit.specs.Judged.{Left}
 use Rattle.pvp_live.specs.declared.sighting.Sighting.{Sighting}
 use Rattle.pvp_live.specs.Notes.{sighting_text}
 use Rattle.pvp_live.specs.Sightings.{sighting_of}

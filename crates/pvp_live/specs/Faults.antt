@@ -1,12 +1,12 @@
--- Why a live run has no judgement.
+-- Why a live run has no verdict.
 use Rattle.std.specs.Prelude.{◌≡◌, ◌≢◌, ◌⊎◌, ℕ, false, List, length, IsPermutation}
 use Rattle.std.specs.List.Sorted.{IsNonDecreasingBy}
 use Rattle.pvp_rooms.specs.Closing.{are_complete}
 use Rattle.pvp_rooms.specs.Seats.{Place}
-use Rattle.pvp_streams.specs.Links.{links, ends_of}
-use Rattle.pvp_streams.specs.declared.sockets.Incoming.{Incoming}
-use Rattle.pvp_streams.specs.declared.sockets.NetFault.{NetFault}
-use Rattle.pvp_streams.specs.declared.sockets.NetFault.TheVariants as net
+use Rattle.pvp_links.specs.Links.{links, ends_of}
+use Rattle.pvp_links.specs.declared.sockets.Incoming.{Incoming}
+use Rattle.pvp_links.specs.declared.sockets.NetFault.{NetFault}
+use Rattle.pvp_links.specs.declared.sockets.NetFault.TheVariants as net
 use Rattle.pvp_live.specs.Seating.{BankSeat}
 use Rattle.pvp_live.specs.declared.running.LiveFault.{LiveFault}
 use Rattle.pvp_live.specs.declared.running.LiveFault.TheVariants.{Net, NoMemory, Seats}

@@ -6,7 +6,7 @@ use Rattle.pvp_rooms.specs.declared.message.Answer.TheVariants.{Done, NoMemory, 
 use Rattle.pvp_rooms.specs.Rooms.{receipt}
 use Rattle.pvp_rooms.specs.Gates.{Hears}
 use Rattle.pvp_rooms.specs.Seats.{Place}
-use Rattle.pvp_peers.specs.Puts.{Put}
+use Rattle.pvp_links.specs.Puts.{Put}
 use Rattle.pvp_text.specs.declared.script.Line.{Line}
 use Rattle.std.specs.Global.{Vec}
 use Rattle.pvp_parties.specs.declared.party.PartyEvent.{PartyEvent}
@@ -14,7 +14,7 @@ use Rattle.pvp_parties.specs.declared.party.PartyOutcome.{PartyOutcome}
 use Rattle.pvp_parties.specs.Parties.{sent_envelopes}
 use Rattle.pvp_live.specs.declared.events.Post.{Post}
 use Rattle.pvp_live.specs.declared.refusals.Refused.{Refused}
-use Rattle.pvp_judge.specs.Judged.{Left}
+use Rattle.pvp_audit.specs.Judged.{Left}
 use Rattle.pvp_live.specs.Seating.{BankSeat, AreNew, IsAmong, IsKeptSeat}
 use Rattle.pvp_live.specs.Events.{statement_post}
 use Rattle.pvp_live.specs.Effects.{line_effect, fault_of}

@@ -7,9 +7,9 @@ use Rattle.pvp_types.specs.declared.step.Step.TheVariants.{Deliver}
 use Rattle.headline.specs.declared.step.Move.{Move}
 use Rattle.headline.specs.declared.step.Move.TheVariants.{Takes, Falls}
 use Rattle.pvp_trace.specs.Attempts.{step_text}
-use Rattle.pvp_judge.specs.declared.judgement.Judgement.{Judgement}
-use Rattle.pvp_judge.specs.declared.judgement.Judgement.TheVariants.{Yes, No}
-use Rattle.pvp_live.specs.Told.{judgement_text}
+use Rattle.pvp_audit.specs.declared.verdict.Verdict.{Verdict}
+use Rattle.pvp_audit.specs.declared.verdict.Verdict.TheVariants.{Yes, No}
+use Rattle.pvp_live.specs.Told.{verdict_text}
 
 -- the line that asks for a step: that of a delivery names no receiver
 abbrev pub asked_text : Setup → Step → List ℕ
@@ -34,6 +34,6 @@ lines_text setup trail =
     else codes "# there are more steps than a script has lines\n"
 
 -- THE SCRIPT of a Yes, or the line of a No
-abbrev pub script_text : Judgement → List ℕ
+abbrev pub script_text : Verdict → List ℕ
 script_text (Yes world) = lines_text world.setup world.trail ++ codes "# audit yes\n"
-script_text (No actor event why) = judgement_text (No actor event why)
+script_text (No actor event why) = verdict_text (No actor event why)

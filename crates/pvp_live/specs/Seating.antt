@@ -4,7 +4,7 @@ use Rattle.std.specs.Global.{Vec}
 use Rattle.pvp_rooms.specs.Seats.{Place, Held}
 use Rattle.pvp_parties.specs.declared.party.PartyEvent.{PartyEvent}
 use Rattle.pvp_parties.specs.declared.party.PartyOutcome.{PartyOutcome}
-use Rattle.pvp_judge.specs.Cells.{LeftOver}
+use Rattle.pvp_audit.specs.Cells.{LeftOver}
 
 -- a seat at an actor of the bank
 abbrev pub BankSeat : Type 0

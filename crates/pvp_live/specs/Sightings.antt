@@ -8,7 +8,7 @@ use Rattle.pvp_rooms.specs.Closing.{IsSeen}
 use Rattle.pvp_rooms.specs.Seats.{Place}
 use Rattle.pvp_parties.specs.declared.party.PartyOf.TheVariants.{Site, Node, Client}
 use Rattle.pvp_parties.specs.declared.party.PartyOf.{PartyOf}
-use Rattle.pvp_judge.specs.Judged.{party_with}
+use Rattle.pvp_audit.specs.Judged.{party_with}
 use Rattle.pvp_live.specs.declared.sighting.Sighting.{Sighting}
 
 -- WHERE AN ACTOR STANDS: a site as its reading calls show it, a node or a client nowhere

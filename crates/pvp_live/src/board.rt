@@ -1,8 +1,8 @@
 //! How many frames go over the streams of a run, counted while it runs.
 ghost use Rattle.std.specs.Prelude.{◌≤◌};
 
+use pvp_links::Writers;
 use pvp_rooms::{Actor, Answer, Gate, Room};
-use pvp_streams::Writers;
 use std::sync::atomic::{AtomicU64, Ordering};
 
 /// Where the frames of a run are counted. Nobody waits for who reads it.

@@ -2,10 +2,9 @@
 ghost use Rattle.std.specs.Prelude.{◌≡◌, length, option_to_list};
 ghost use Rattle.pvp_live.specs.Counts.{broken_count, came_in_all, came_to, frames_at, frames_taken, is_broken, sent_by, sent_in_all};
 
+use pvp_links::{Peer, PeerEnd, Served, StreamEnd};
 use pvp_parties::{Party, PartyEvent, PartyOf, PartyOutcome};
-use pvp_peers::{PeerEnd, Served, StreamEnd};
 use pvp_rooms::{Closed, Recorded};
-use pvp_streams::Peer;
 use vr_types::BootCell;
 
 /// How many envelopes these actors sent in all.

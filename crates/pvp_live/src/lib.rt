@@ -18,4 +18,4 @@ pub mod told;
 pub use refusals::Refused;
 pub use running::{LiveFault, Lived, live};
 pub use scripts::print_script;
-pub use told::print_judgement;
+pub use told::print_verdict;

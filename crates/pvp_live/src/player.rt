@@ -1,4 +1,4 @@
-//! The player of a live script, who drives its bank: it posts at each actor from a seat of its own.
+//! The player of a live script: it posts at each actor from a seat of its own.
 
 ghost use Rattle.std.specs.Prelude.{◌≡◌, List, Some, option_copied};
 ghost use Rattle.pvp_rooms.specs.Gates.{Hears};
@@ -13,10 +13,9 @@ use crate::events::{Post, statement_post};
 use crate::notes::{tell_posted, tell_rest, tell_sites};
 use crate::refusals::{Refused, refused_after};
 use crate::sighting::look_at_sites;
+use pvp_links::{Outbox, Player, Served};
 use pvp_parties::{PartyCellOf, PartyOf, PartyOutcome, PartySeat};
-use pvp_peers::{Outbox, Served};
 use pvp_rooms::{Actor, Answer, Gate, Input, Room};
-use pvp_streams::Driver;
 use pvp_text::script::{Line, Statement};
 use pvp_types::Setup;
 use std::alloc::Global;
@@ -170,13 +169,13 @@ impl<R: Wait + Clock, N: Write, C: BootCell> LinePlayer<'_, R, N, C> {
     }
 }
 
-impl<R: Wait + Clock, N: Write, C: BootCell> Driver for LinePlayer<'_, R, N, C> {
+impl<R: Wait + Clock, N: Write, C: BootCell> Player for LinePlayer<'_, R, N, C> {
     ghost use Rattle.pvp_live.specs.Playing.{Plays, keeps};
 
-    ghost drives = { λ old new puts. Plays old.cells.now old.lines.now
+    ghost plays = { λ old new puts. Plays old.cells.now old.lines.now
         (keeps old.seats.items old.refused) (keeps new.seats.items new.refused) puts };
 
-    fn drive<O: Outbox>(&mut self, out: &mut O) {
+    fn play<O: Outbox>(&mut self, out: &mut O) {
         for line in self.lines {
             self.line(*line, out);
         }

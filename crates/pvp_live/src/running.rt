@@ -1,7 +1,7 @@
-//! A live run, from the first connection to the judgement.
+//! A live run, from the first connection to the verdict.
 ghost use Rattle.std.specs.Prelude.{◌≡◌, ◌+◌, ◌*◌, length, IfErr, IfOk, IsPermutation, OnOk};
 ghost use Rattle.pvp_types.specs.Setup.{IsValid, faults};
-ghost use Rattle.pvp_judge.specs.Banked.{IsTheBank};
+ghost use Rattle.pvp_audit.specs.Banked.{IsTheBank};
 ghost use Rattle.pvp_live.specs.Bank.{BeganNew, numbers_of};
 ghost use Rattle.pvp_live.specs.Faults.{AreWanting, Ends, IsLate};
 ghost use Rattle.pvp_live.specs.Playing.{IsTally, WasTallied};
@@ -13,12 +13,12 @@ use crate::board::{Board, Counter};
 use crate::notes::{tell_connected, tell_ends, tell_left};
 use crate::player::{LinePlayer, place_of};
 use crate::refusals::Refused;
-use pvp_judge::{Judgement, NotTheBank, in_memory, judge};
-use pvp_parties::{Party, PartyCellOf, PartyOf, PartySeat};
-use pvp_rooms::Closed;
-use pvp_streams::{
+use pvp_audit::{NotTheBank, Verdict, audit, in_memory};
+use pvp_links::{
     Connected, Incoming, NetFault, Peer, Sending, Writer, Writers, connect_all, serve_streams,
 };
+use pvp_parties::{Party, PartyCellOf, PartyOf, PartySeat};
+use pvp_rooms::Closed;
 use pvp_text::script::Line;
 use pvp_types::Setup;
 use std::alloc::{AllocError, AllocFailed, Global};
@@ -29,7 +29,7 @@ use std::thread::Threads;
 use std::time::Clock;
 use vr_types::BootCell;
 
-/// Why there is no judgement.
+/// Why there is no verdict.
 #[derive(Clone, Copy, Debug, PartialEq, Eq)]
 pub enum LiveFault {
     /// A listener could not be opened, or a connection not be made.
@@ -98,7 +98,7 @@ pub struct Lived {
     /// What its actors left, each site read over a cell in memory that holds what its own does.
     pub closed: Vec<Closed<Party>>,
     /// How that was judged.
-    pub judgement: Judgement,
+    pub verdict: Verdict,
     /// Which lines of its script were refused.
     pub refused: Option<Refused>,
 }
@@ -107,7 +107,7 @@ pub struct Lived {
 /// over one of these boot cells, in their order, of which each has to be new. Each actor has a lock
 /// of its own and a stream from each other that may send to it. At the script's end the writers
 /// stop, all workers end, and the actors are judged; a refused step of the script stands in the
-/// history, and which lines were refused is reported beside the judgement. What goes on is reported
+/// history, and which lines were refused is reported beside the verdict. What goes on is reported
 /// to `notes` while it runs.
 pub fn live<R, C: BootCell + Send, N: Write>(
     rt: &R,
@@ -122,7 +122,7 @@ where
     R::Stream: Read + Write + Send + Drop,
     requires valid { IsValid setup.now }
     requires sites { length boots.items ≡ 2 * faults setup.now + 1 }
-    ensures judged { IfOk result (λ lived. WasJudged setup.now lived.closed.items lived.judgement) }
+    ensures judged { IfOk result (λ lived. WasJudged setup.now lived.closed.items lived.verdict) }
     ensures tally { IfOk result (λ lived. WasTallied lines.now lived.closed.items lived.refused) }
     ensures fault { IfErr result (Ends R.Stream (numbers_of setup.now) notes.old notes.new) }
 {
@@ -147,7 +147,7 @@ where
     R::Stream: Read + Write + Send + Drop,
     requires valid { IsValid setup.now }
     requires sites { length boots.items ≡ 2 * faults setup.now + 1 }
-    ensures judged { IfOk result (λ lived. WasJudged setup.now lived.closed.items lived.judgement) }
+    ensures judged { IfOk result (λ lived. WasJudged setup.now lived.closed.items lived.verdict) }
     ensures tally { IfOk result (λ lived. WasTallied lines.now lived.closed.items lived.refused) }
     ensures late { IfErr result IsLate }
 {
@@ -168,20 +168,16 @@ where
     )?;
     let closed = in_memory(alloc, close_all(alloc, cells, seats)?)?;
     tell_left(alloc, notes, setup, closed.as_slice());
-    let judgement = judge_left(alloc, setup, closed.as_slice())?;
+    let verdict = judge_left(alloc, setup, closed.as_slice())?;
     Ok(Lived {
         closed,
-        judgement,
+        verdict,
         refused,
     })
 }
 
 /// Judges what all actors left. `Err` exactly where these are not the bank's, or a site had not begun with a new cell.
-fn judge_left(
-    alloc: Global,
-    setup: &Setup,
-    closed: &[Closed<Party>],
-) -> Result<Judgement, Misplaced>
+fn judge_left(alloc: Global, setup: &Setup, closed: &[Closed<Party>]) -> Result<Verdict, Misplaced>
     requires { IsValid setup.now }
     ensures judged { IfOk result (WasJudged setup.now closed.now) }
     ensures stranger { IfErr result (λ _.
@@ -190,8 +186,8 @@ fn judge_left(
     if !began_new(closed) {
         return Err(Misplaced);
     }
-    match judge(alloc, setup, closed) {
-        Ok(judgement) => Ok(judgement),
+    match audit(alloc, setup, closed) {
+        Ok(verdict) => Ok(verdict),
         Err(NotTheBank) => Err(Misplaced),
     }
 }

@@ -6,8 +6,8 @@ ghost use Rattle.std.specs.Io.KnownBytes.{Appends};
 ghost use Rattle.pvp_text.specs.declared.book.RunFault.TheVariants.{NoMemory, Output};
 ghost use Rattle.pvp_live.specs.Scripts.{script_text, lines_text, line_text, asked_text, is_fall};
 
-use crate::told::push_judgement;
-use pvp_judge::Judgement;
+use crate::told::push_verdict;
+use pvp_audit::Verdict;
 use pvp_text::book::{RunFault, write_text};
 use pvp_trace::attempt::push_step;
 use pvp_types::Step;
@@ -21,34 +21,34 @@ const MOST_STEPS: usize = 65_533;
 
 /// Writes the run of a Yes as the script of a play: a line for each step in the order of the merged list, `print`, and the
 /// comment `# audit yes`. Where a site fell, or where there are more steps than a script has lines, a comment says so in
-/// place of the lines. A No is written as `print_judgement` does. Where memory is refused nothing is written; how much was
+/// place of the lines. A No is written as `print_verdict` does. Where memory is refused nothing is written; how much was
 /// where the writer fails is not said.
 pub fn print_script<W: Write>(
     alloc: Global,
-    judgement: &Judgement,
+    verdict: &Verdict,
     writer: &mut W,
 ) -> Result<(), RunFault>
     ensures written { OnOk result
-        (Appends (W.contents writer.old) (W.contents writer.new) (script_text judgement.now)) }
+        (Appends (W.contents writer.old) (W.contents writer.new) (script_text verdict.now)) }
     ensures fault { IfErr result (λ fault. (fault ≡ NoMemory) ⊎ (fault ≡ Output)) }
     ensures no_memory { result ≡ Err NoMemory → writer.new ≡ writer.old }
 {
     let mut text = String::new(alloc);
-    push_script(&mut text, judgement)?;
+    push_script(&mut text, verdict)?;
     write_text(writer, text.as_str())
 }
 
 /// Appends the script of a Yes, or the line of a No.
-fn push_script(text: &mut String, judgement: &Judgement) -> Result<(), AllocError>
+fn push_script(text: &mut String, verdict: &Verdict) -> Result<(), AllocError>
     ensures { OnOk result (string_bytes text.new ≡ string_bytes text.old
-        ++ script_text judgement.now) }
+        ++ script_text verdict.now) }
 {
-    match judgement {
-        Judgement::Yes(world) => {
+    match verdict {
+        Verdict::Yes(world) => {
             push_lines(text, world)?;
             text.push_str("# audit yes\n")
         }
-        Judgement::No { .. } => push_judgement(text, judgement),
+        Verdict::No { .. } => push_verdict(text, verdict),
     }
 }
 

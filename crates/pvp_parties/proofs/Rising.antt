@@ -3,7 +3,7 @@ use Rattle.std.proofs.Common.{◌≡◌, ℕ, ◌+◌, ◌-◌, ◌<◌, ◌≤�
 use Rattle.std.proofs.lemmas.Option.{slice_get_read}
 use Rattle.std.proofs.lemmas.Bool.{eqb-true, eqb-false}
 use Rattle.pvp_rooms.specs.declared.cell.Closed.{Closed}
-use Rattle.pvp_audit.specs.Runs.{number_in, number_at}
+use Rattle.pvp_rooms.specs.Runs.{number_in, number_at}
 
 number_read : {A N E O : Type 0} (closed : List (Closed A N E O)) (k : ℕ) (c : Closed A N E O) → k < length closed → c ≡ get_or closed k c
     → number_at closed k ≡ c.number

@@ -23,7 +23,7 @@ use Rattle.vr_site.proofs.Shows.{none_summed}
 use Rattle.pvp_rooms.specs.declared.site.CameOf.TheVariants.{Did, Refused, Fell}
 use Rattle.pvp_rooms.specs.Sites.{SiteState, step_in, Comes, after, Shows}
 use Rattle.pvp_rooms.specs.Histories.{Takes}
-use Rattle.pvp_audit.specs.Runs.{Follows}
+use Rattle.pvp_rooms.specs.Runs.{Follows}
 use Rattle.pvp_rooms.proofs.SiteSteps.{refusal_of, still, ended_allowed, did, fell_over}
 
 some : {X : Type 0} (a b : X) → Some a ≡ Some b → a ≡ b

@@ -7,8 +7,8 @@ use crate::told::{
     same_came, same_client_event, same_client_told, same_node_event, same_node_told,
     same_site_event,
 };
-use pvp_audit::Audited;
 use pvp_book::Book;
+use pvp_rooms::Audited;
 use std::alloc::{AllocError, Global};
 use vr_types::is_same_envelope;
 

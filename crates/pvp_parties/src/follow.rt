@@ -1,6 +1,6 @@
 //! Taking an event again that came out so.
 ghost use Rattle.std.specs.Prelude.{◌≡◌, ◌⊎◌, ◌↔◌, IsTrue, IfOk, Ok, Err};
-ghost use Rattle.pvp_audit.specs.Runs.{Follows};
+ghost use Rattle.pvp_rooms.specs.Runs.{Follows};
 ghost use Rattle.pvp_rooms.specs.Nodes as nodes;
 ghost use Rattle.pvp_rooms.specs.Clients as clients;
 ghost use Rattle.pvp_rooms.specs.Sites.{SiteState, Comes, Shows, after};

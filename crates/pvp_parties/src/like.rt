@@ -66,7 +66,7 @@ pub fn are_alike_nodes(a: &Node, b: &Node) -> bool
     ensures { IsTrue result ↔ ReadsNode a.now b.now }
 {
     a.account() == b.account()
-        && a.returned_count() == b.returned_count()
+        && a.returned() == b.returned()
         && a.unanswered_count() == b.unanswered_count()
         && same_pay_ins(a.pay_ins(), b.pay_ins())
         && same_pay_outs(a.pay_outs(), b.pay_outs())

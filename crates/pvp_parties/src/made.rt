@@ -1,6 +1,6 @@
 //! An actor of the bank, with what it was made from.
 ghost use Rattle.std.specs.Prelude.{◌≡◌, ◌*◌, ◌<◌, ◌≤◌, length, IfOk, OnErr};
-ghost use Rattle.pvp_audit.specs.Runs.{Follows};
+ghost use Rattle.pvp_rooms.specs.Runs.{Follows};
 ghost use Rattle.pvp_types.specs.Setup.{IsValid, faults};
 ghost use Rattle.pvp_book.specs.Ledger.{Ledger, node_of};
 ghost use Rattle.vr_types.specs.Group.{actor_of};

@@ -1,6 +1,6 @@
 //! Closed actors in order of their numbers.
 ghost use Rattle.std.specs.Prelude.{◌↔◌, IsTrue};
-ghost use Rattle.pvp_audit.specs.Runs.{AreInOrder};
+ghost use Rattle.pvp_rooms.specs.Runs.{AreInOrder};
 
 use crate::party::Party;
 use pvp_rooms::Closed;

@@ -2,7 +2,7 @@
 use crate::party::{PartyEvent, PartyOf, PartyOutcome};
 use headline::ClientEvent;
 use pvp_book::Book;
-use pvp_peers::Served;
+use pvp_links::Served;
 use pvp_rooms::CameOf;
 use rtgs_node::NodeEvent;
 use vr_types::{ActorId, BootCell, Envelope, EventOf};

@@ -3,7 +3,7 @@ use Rattle.std.specs.Prelude.{ℕ, ◌+◌, ◌/◌, ◌%◌, List, [], ◌∷�
 use Rattle.std.specs.List.{flat_map}
 use Rattle.pvp_types.specs.declared.setup.Setup.{Setup}
 use Rattle.pvp_trace.specs.Names.{actor_text}
-use Rattle.pvp_streams.specs.Links.{talks}
+use Rattle.pvp_links.specs.Links.{talks}
 use Rattle.pvp_tags.specs.Keys.{key_of}
 
 -- a number from 0 to 15 as a digit of 0 to 9 and a to f

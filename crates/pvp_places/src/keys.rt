@@ -9,7 +9,7 @@ use crate::fault::{LineFault, PlaceFault, PlaceWhy};
 use crate::names::actor_named;
 use crate::words::{is_skipped, two_words};
 use hex::FromHex;
-use pvp_streams::may_send;
+use pvp_links::may_send;
 use pvp_tags::key_of;
 use pvp_text::next_line;
 use pvp_trace::names::push_actor;

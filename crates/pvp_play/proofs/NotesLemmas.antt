@@ -31,7 +31,3 @@ module _ (setup : Setup) (post : List Envelope) (noted : List Attempt) where
       ap (λ t. t ++ notes_text setup post (n + 1) noted) written
       ∙ append_assoc old (numbered_text setup post (n + 1, a)) (notes_text setup post (n + 1) noted)
       ∙ ap (λ t. old ++ t) (sym (text-here n a here)) ∙ before
-
--- past the last there is nothing
-pub notes-past : (setup : Setup) (post : List Envelope) (noted : List Attempt) (n : ℕ) → length noted ≤ n → notes_text setup post n noted ≡ []
-notes-past setup post noted n past = ap (λ rest. flat_map (numbered_text setup post) (enumerate_from (n + 1) rest)) (drop_all n noted past)

@@ -141,7 +141,7 @@ fn push_account(text: &mut String, setup: &Setup, ccy: u8, node: &Node) -> Resul
         text,
         "node {code} account {account} payins {pay_ins} payouts {pay_outs}"
     )?;
-    push_returned(text, node.returned_count())?;
+    push_returned(text, node.returned())?;
     text.push_str("\n")
 }
 

@@ -7,3 +7,10 @@ pub mod Requests
 pub mod Nodes
 pub mod Clients
 pub mod Gates
+pub mod Runs
+pub mod Named
+pub mod Together
+pub mod Verdicts
+pub mod Merging
+pub mod Alone
+pub mod Ends

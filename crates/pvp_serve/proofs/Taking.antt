@@ -5,16 +5,16 @@ use Rattle.pvp_rooms.specs.declared.actor.Actor.{Ghosts}
 use Rattle.pvp_rooms.specs.declared.message.Recorded.{Recorded}
 use Rattle.pvp_rooms.specs.Rooms.{clock_after}
 use Rattle.pvp_wire.specs.declared.stamped.Stamp.{Stamp}
-use Rattle.pvp_logs.specs.Rooms.{Texts, Held, Past, Keeps, Flushes, letter, all_written}
+use Rattle.pvp_journal.specs.Rooms.{Texts, Held, Past, Keeps, Flushes, letter, all_written}
 use Rattle.pvp_journal.specs.declared.fault.WriteFault.{WriteFault}
 use Rattle.pvp_journal.specs.declared.fault.WriteFault.TheVariants as write
 use Rattle.pvp_places.specs.declared.serving.ServeFault.{ServeFault}
 use Rattle.pvp_places.specs.declared.serving.ServeFault.TheVariants as serve
 use Rattle.pvp_places.specs.Told.{write_told}
-use Rattle.pvp_peers.specs.Puts.{Put}
+use Rattle.pvp_links.specs.Puts.{Put}
 use Rattle.pvp_parties.specs.declared.party.PartyOutcome.{PartyOutcome}
 use Rattle.pvp_parties.specs.Parties.{sent_envelopes}
-use Rattle.pvp_logs.specs.declared.room.Letter.{Letter}
+use Rattle.pvp_journal.specs.declared.room.Letter.{Letter}
 use Rattle.pvp_serve.specs.Serving.{puts_in, IsRefused}
 
 -- what is left of a room where an input was not taken

@@ -4,14 +4,14 @@ use Rattle.pvp_rooms.specs.declared.actor.Actor.{Ghosts}
 use Rattle.pvp_parties.specs.declared.party.PartyOf.{PartyOf}
 use Rattle.pvp_parties.specs.declared.party.PartyEvent.{PartyEvent}
 use Rattle.pvp_parties.specs.declared.party.PartyOutcome.{PartyOutcome}
-use Rattle.pvp_logs.specs.Rooms.{Texts}
+use Rattle.pvp_journal.specs.Rooms.{Texts}
 use Rattle.pvp_serve.specs.declared.desk.Asked.{Asked}
 use Rattle.pvp_text.specs.declared.script.LineCode.{LineCode}
 use Rattle.pvp_serve.specs.declared.desk.TerminalDesk.{TerminalDesk}
 use Rattle.pvp_places.specs.declared.serving.ServeFault.{ServeFault}
 use Rattle.pvp_places.specs.declared.serving.ServeFault.TheVariants.{NoMemory, Output}
 use Rattle.pvp_places.specs.declared.fault.TerminalWhy.{TerminalWhy}
-use Rattle.pvp_logs.specs.declared.room.Letter.{Letter}
+use Rattle.pvp_journal.specs.declared.room.Letter.{Letter}
 use Rattle.pvp_types.specs.declared.setup.Setup.{Setup}
 use Rattle.pvp_serve.specs.Desks.{event_of}
 use Rattle.pvp_serve.specs.Serving.{HasFlushed, IsUnwritten, TakesIn, own_input}

@@ -5,7 +5,7 @@ use Rattle.pvp_rooms.specs.declared.actor.Actor.{Ghosts}
 use Rattle.pvp_parties.specs.declared.party.PartyOf.{PartyOf}
 use Rattle.pvp_parties.specs.declared.party.PartyEvent.{PartyEvent}
 use Rattle.pvp_parties.specs.declared.party.PartyOutcome.{PartyOutcome}
-use Rattle.pvp_logs.specs.Rooms.{Texts}
+use Rattle.pvp_journal.specs.Rooms.{Texts}
 use Rattle.pvp_places.specs.declared.serving.ServeFault.{ServeFault}
 use Rattle.pvp_serve.specs.declared.attending.Desk.{Desk}
 use Rattle.pvp_serve.specs.declared.attending.Desk.TheVariants.{Site, Terminal}

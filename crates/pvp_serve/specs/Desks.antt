@@ -36,8 +36,8 @@ use Rattle.pvp_parties.specs.declared.party.PartyEvent.{PartyEvent}
 use Rattle.pvp_parties.specs.declared.party.PartyEvent.TheVariants.{OfSite, OfNode, OfClient}
 use Rattle.pvp_parties.specs.declared.party.PartyOutcome.{PartyOutcome}
 use Rattle.pvp_parties.specs.declared.party.PartyOutcome.TheVariants as outcome
-use Rattle.pvp_logs.specs.declared.room.Letter.{Letter}
-use Rattle.pvp_logs.specs.Rooms.{Held, Texts}
+use Rattle.pvp_journal.specs.declared.room.Letter.{Letter}
+use Rattle.pvp_journal.specs.Rooms.{Held, Texts}
 use Rattle.pvp_places.specs.declared.fault.TerminalWhy.{TerminalWhy}
 use Rattle.pvp_places.specs.declared.fault.TerminalWhy.TheVariants.{Full}
 use Rattle.pvp_places.specs.declared.serving.ServeFault.{ServeFault}

@@ -1,8 +1,8 @@
 -- Who may talk over a stream, and by which key.
 use Rattle.std.specs.Prelude.{◌≡◌, ◌≢◌, ℕ, true, List, Option, Some, None, Result, Ok, Err}
-use Rattle.pvp_intake.specs.declared.link.Link.{Link}
-use Rattle.pvp_intake.specs.Fronts.{caller_at}
-use Rattle.pvp_intake.specs.Intakes.{TakesHello}
+use Rattle.pvp_links.specs.declared.link.Link.{Link}
+use Rattle.pvp_links.specs.Fronts.{caller_at}
+use Rattle.pvp_links.specs.Intakes.{TakesHello}
 use Rattle.pvp_places.specs.declared.keys.Keys.{Keys}
 use Rattle.pvp_places.specs.declared.serving.Paper.TheVariants as papers
 use Rattle.pvp_places.specs.declared.serving.ServeFault.{ServeFault}

@@ -4,9 +4,9 @@ use Rattle.vr_types.specs.declared.actors.ActorId.{ActorId}
 use Rattle.vr_types.specs.declared.actors.ActorId.TheVariants.{Site}
 use Rattle.vr_types.specs.declared.message.MsgOf.{MsgOf}
 use Rattle.vr_types.specs.declared.message.MsgOf.TheVariants.{Request}
-use Rattle.pvp_intake.specs.declared.arrival.Piece.{Piece}
-use Rattle.pvp_intake.specs.declared.arrival.Piece.TheVariants.{Frame, Ping}
-use Rattle.pvp_intake.specs.Sealing.{ping_text}
+use Rattle.pvp_links.specs.declared.arrival.Piece.{Piece}
+use Rattle.pvp_links.specs.declared.arrival.Piece.TheVariants.{Frame, Ping}
+use Rattle.pvp_links.specs.Sealing.{ping_text}
 use Rattle.pvp_text.specs.ScriptWords.{is_empty}
 use Rattle.pvp_serve.specs.declared.lanes.Lane.{Lane}
 use Rattle.pvp_serve.specs.declared.lanes.Lanes.{Lanes}

@@ -13,7 +13,7 @@ use Rattle.vr_site.specs.Replica.{site_shown}
 use Rattle.pvp_book.specs.Ledger.{Ledger, opening}
 use Rattle.headline.specs.Machine.{book}
 use Rattle.pvp_text.specs.ScriptWords.{is_empty}
-use Rattle.pvp_evidence.specs.declared.shelf.ShelfFault.TheVariants as shelf
+use Rattle.pvp_audit.specs.declared.shelf.ShelfFault.TheVariants as shelf
 use Rattle.pvp_places.specs.declared.serving.ServeFault.{ServeFault}
 use Rattle.pvp_places.specs.declared.serving.ServeFault.TheVariants as serve
 use Rattle.pvp_rooms.specs.declared.actor.Actor.{Ghosts}
@@ -21,18 +21,18 @@ use Rattle.pvp_rooms.specs.declared.message.Input.{Input}
 use Rattle.pvp_rooms.specs.Rooms.{clock_after}
 use Rattle.pvp_wire.specs.declared.stamped.Stamp.{Stamp}
 use Rattle.pvp_wire.specs.declared.stamped.Stamped.{Stamped}
-use Rattle.pvp_peers.specs.Puts.{Put}
+use Rattle.pvp_links.specs.Puts.{Put}
 use Rattle.pvp_parties.specs.Parties.{delivery_event, sent_envelopes}
 use Rattle.pvp_parties.specs.declared.party.PartyOf.{PartyOf}
 use Rattle.pvp_parties.specs.declared.party.PartyOf.TheVariants as party
 use Rattle.pvp_parties.specs.declared.party.PartyEvent.{PartyEvent}
 use Rattle.pvp_parties.specs.declared.party.PartyOutcome.{PartyOutcome}
-use Rattle.pvp_logs.specs.Log.{OutlivesAll}
-use Rattle.pvp_logs.specs.declared.log.LogFault.{LogFault}
-use Rattle.pvp_logs.specs.declared.log.LogFault.TheVariants as log
-use Rattle.pvp_logs.specs.Rooms.{Texts, Held, Steps, Flushes}
-use Rattle.pvp_logs.specs.declared.room.Letter.{Letter}
-use Rattle.pvp_logs.specs.declared.room.Posted.TheVariants.{Done}
+use Rattle.pvp_journal.specs.Log.{OutlivesAll}
+use Rattle.pvp_journal.specs.declared.log.LogFault.{LogFault}
+use Rattle.pvp_journal.specs.declared.log.LogFault.TheVariants as log
+use Rattle.pvp_journal.specs.Rooms.{Texts, Held, Steps, Flushes}
+use Rattle.pvp_journal.specs.declared.room.Letter.{Letter}
+use Rattle.pvp_journal.specs.declared.room.Posted.TheVariants.{Done}
 use Rattle.pvp_serve.specs.declared.admission.Seen.{Seen}
 use Rattle.pvp_serve.specs.declared.serving.Request.{Request}
 use Rattle.pvp_serve.specs.declared.serving.Standing.{Standing}

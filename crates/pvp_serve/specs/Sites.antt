@@ -13,7 +13,7 @@ use Rattle.pvp_wire.specs.declared.stamped.Stamped.{Stamped}
 use Rattle.pvp_rooms.specs.declared.actor.Actor.{Ghosts}
 use Rattle.pvp_parties.specs.declared.party.PartyOf.{PartyOf}
 use Rattle.pvp_parties.specs.declared.party.PartyEvent.{PartyEvent}
-use Rattle.pvp_logs.specs.Rooms.{Held, Texts}
+use Rattle.pvp_journal.specs.Rooms.{Held, Texts}
 use Rattle.pvp_places.specs.declared.serving.ServeFault.{ServeFault}
 use Rattle.pvp_places.specs.declared.serving.ServeFault.TheVariants.{NoMemory}
 use Rattle.pvp_serve.specs.declared.inbox.Inbox.{Inbox}

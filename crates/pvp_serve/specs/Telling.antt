@@ -3,9 +3,9 @@ use Rattle.std.specs.Prelude.{ℕ, ◌+◌, ◌-◌, ◌^◌, ◌==◌, ◌&&◌
 use Rattle.vr_types.specs.declared.event.Status.{Status}
 use Rattle.vr_types.specs.declared.event.Status.TheVariants.{Normal, Change, Recovering, Down}
 use Rattle.pvp_types.specs.declared.setup.Setup.{Setup}
-use Rattle.pvp_intake.specs.declared.hearing.LinkEnd.{LinkEnd}
-use Rattle.pvp_intake.specs.declared.hearing.LinkEnd.TheVariants.{Wrong}
-use Rattle.pvp_intake.specs.declared.fault.LinkFault.{LinkFault}
+use Rattle.pvp_links.specs.declared.hearing.LinkEnd.{LinkEnd}
+use Rattle.pvp_links.specs.declared.hearing.LinkEnd.TheVariants.{Wrong}
+use Rattle.pvp_links.specs.declared.fault.LinkFault.{LinkFault}
 use Rattle.pvp_serve.specs.declared.serving.Standing.{Standing}
 use Rattle.pvp_serve.specs.declared.telling.Stood.{Stood}
 use Rattle.pvp_serve.specs.declared.telling.Teller.{Teller}

@@ -16,8 +16,8 @@ use Rattle.pvp_parties.specs.declared.party.PartyOf.{PartyOf}
 use Rattle.pvp_parties.specs.declared.party.PartyEvent.{PartyEvent}
 use Rattle.pvp_parties.specs.declared.party.PartyEvent.TheVariants.{OfNode, OfClient}
 use Rattle.pvp_parties.specs.declared.party.PartyOutcome.{PartyOutcome}
-use Rattle.pvp_logs.specs.declared.room.Letter.{Letter}
-use Rattle.pvp_logs.specs.Rooms.{Held, Texts}
+use Rattle.pvp_journal.specs.declared.room.Letter.{Letter}
+use Rattle.pvp_journal.specs.Rooms.{Held, Texts}
 use Rattle.pvp_places.specs.declared.serving.ServeFault.{ServeFault}
 use Rattle.pvp_places.specs.declared.fault.TerminalWhy.{TerminalWhy}
 use Rattle.pvp_places.specs.declared.serving.ServeFault.TheVariants.{NoMemory, Output}

@@ -5,7 +5,7 @@ ghost use Rattle.pvp_serve.specs.Desks.{last_told, told_of};
 
 use crate::host::Host;
 use crate::serving::Request;
-use pvp_logs::Letter;
+use pvp_journal::Letter;
 use pvp_parties::PartyOutcome;
 use pvp_places::{ServeFault, TerminalWhy};
 use pvp_types::Reply;

@@ -1,6 +1,6 @@
 //! What a loop does with what comes.
 ghost use Rattle.std.specs.Prelude.{◌≡◌, IfOk};
-ghost use Rattle.pvp_logs.specs.Rooms.{bank_texts};
+ghost use Rattle.pvp_journal.specs.Rooms.{bank_texts};
 ghost use Rattle.pvp_serve.specs.Attending.{DeskTakes, sifted_for};
 ghost use Rattle.pvp_serve.specs.Desks.{IsElseAsAfter};
 ghost use Rattle.pvp_serve.specs.Serving.{IsSafeIn};
@@ -11,7 +11,7 @@ use crate::inbox::Inbox;
 use crate::lanes::Lanes;
 use crate::serving::{Serving, Standing};
 use crate::site::SiteDesk;
-use pvp_logs::Log;
+use pvp_journal::Log;
 use pvp_parties::PartyOf;
 use pvp_places::ServeFault;
 use pvp_rooms::Actor;

@@ -22,7 +22,7 @@ ghost use Rattle.rtgs_node.specs.declared.event.NodeEvent.TheVariants as node_ev
 ghost use Rattle.headline.specs.declared.step.ClientEvent.TheVariants as client_event;
 ghost use Rattle.pvp_parties.specs.declared.party.PartyEvent.TheVariants.{OfClient, OfNode};
 ghost use Rattle.pvp_places.specs.declared.serving.ServeFault.TheVariants.{NoMemory};
-ghost use Rattle.pvp_logs.specs.Rooms.{bank_texts};
+ghost use Rattle.pvp_journal.specs.Rooms.{bank_texts};
 ghost use Rattle.pvp_serve.specs.Desks.{
   BeatsClient,
   BeatsNode,
@@ -80,8 +80,8 @@ use crate::lines::event_of;
 use crate::serving::{Request, Serving};
 use headline::ClientEvent;
 use pvp_book::Book;
-use pvp_intake::Arrival;
-use pvp_logs::{Letter, Log};
+use pvp_journal::{Letter, Log};
+use pvp_links::Arrival;
 use pvp_parties::{PartyEvent, PartyOf, PartyOutcome};
 use pvp_places::{ServeFault, TerminalWhy};
 use pvp_rooms::Actor;

@@ -4,7 +4,7 @@ use crate::host::Wires;
 use crate::inbox::Inbox;
 use crate::streams::{announce, read_all, settle, write_all};
 use crossbeam_channel::Sender;
-use pvp_intake::{Intake, Link, put_hello};
+use pvp_links::{Intake, Link, put_hello};
 use pvp_places::Address;
 use std::io::{self, ErrorKind, Write};
 use std::net::{IpAddr, Ipv4Addr, SocketAddr, TcpStream};

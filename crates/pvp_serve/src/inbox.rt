@@ -2,7 +2,7 @@
 
 use crate::lanes::Lane;
 use crossbeam_channel::Sender;
-use pvp_intake::{Arrival, LinkEnd, LinkFault};
+use pvp_links::{Arrival, LinkEnd, LinkFault};
 use std::sync::Wait;
 
 /// What the loop takes, one after another.

@@ -18,7 +18,7 @@ ghost use Rattle.std.specs.Prelude.{
 };
 ghost use Rattle.std.specs.List.{list_any};
 ghost use Rattle.pvp_places.specs.declared.serving.ServeFault.TheVariants.{NoMemory};
-ghost use Rattle.pvp_peers.specs.Puts.{Put};
+ghost use Rattle.pvp_links.specs.Puts.{Put};
 ghost use Rattle.pvp_rooms.specs.Gates.{Hears};
 ghost use Rattle.pvp_serve.specs.Lanes.{
   is_stream,
@@ -33,7 +33,7 @@ ghost use Rattle.pvp_serve.specs.Lanes.{
 use crate::host::Wires;
 use crossbeam_channel::{Receiver, Sender, unbounded};
 use pvp_book::Book;
-use pvp_peers::Outbox;
+use pvp_links::Outbox;
 use pvp_places::ServeFault;
 use pvp_wire::{Stamp, Stamped, encode, wireable};
 use std::alloc::{AllocError, Global};

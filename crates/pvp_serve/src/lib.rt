@@ -25,6 +25,7 @@ pub mod site;
 pub mod streams;
 pub mod telling;
 pub mod ticking;
+pub mod written;
 
 pub use host::Host;
 pub use process::{begin, serve};

@@ -6,7 +6,7 @@ use crate::host::Wires;
 use crate::inbox::{Inbox, tell};
 use crate::streams::{announce, read_all, settle, write_all};
 use crossbeam_channel::Sender;
-use pvp_intake::{Intake, Link, LinkFault};
+use pvp_links::{Intake, Link, LinkFault};
 use pvp_places::Keys;
 use std::alloc::Global;
 use std::collections::VecDeque;

@@ -3,8 +3,8 @@ ghost use Rattle.std.specs.Prelude.{◌≡◌, None, Some, IfOk, IfErr, IsTrue};
 ghost use Rattle.pvp_types.specs.Setup.{IsValid};
 ghost use Rattle.pvp_journal.specs.Journals.{IsRead};
 ghost use Rattle.pvp_journal.specs.declared.journal.Left.TheVariants.{Nothing};
-ghost use Rattle.pvp_logs.specs.Log.{OutlivesAll};
-ghost use Rattle.pvp_logs.specs.Resumed.{IsAgain, IsOpened};
+ghost use Rattle.pvp_journal.specs.Log.{OutlivesAll};
+ghost use Rattle.pvp_journal.specs.Resumed.{IsAgainOf, IsOpened};
 ghost use Rattle.pvp_serve.specs.Serving.{log_told};
 ghost use Rattle.pvp_serve.specs.Opening.{
   IsDamaged,
@@ -30,12 +30,12 @@ use crate::host::Host;
 use crate::lanes::Lanes;
 use crate::reading::Reading;
 use crate::serving::Serving;
+use pvp_audit::{EvidenceWhy, ShelfFault};
 use pvp_cell::{DirStore, FileCell, OpenFault, create_cell, read_cell, settle_cell};
-use pvp_evidence::{EvidenceWhy, ShelfFault};
-use pvp_journal::{Entry, Head, Journal, JournalFault, JournalWhy, Left, read_journal, write_head};
-use pvp_logs::{
-    FileLog, JournalRoom, Journaled, Log, LogFault, Pace, Replayed, RestartFault, WayBack,
-    come_back, replay, restart, way_back,
+use pvp_journal::{
+    Entry, FileLog, Head, Journal, JournalFault, JournalRoom, JournalWhy, Journaled, Left, Log,
+    LogFault, Pace, Replayed, RestartFault, Version, WayBack, come_back, read_journal, replay,
+    restart, way_back, write_head,
 };
 use pvp_parties::{Party, PartyOf};
 use pvp_places::{FolderWhy, Mark, ServeFault};
@@ -377,6 +377,7 @@ fn put_head<R: Host>(
 ) -> Result<(usize, u64), ServeFault> {
     let alloc = rt.alloc();
     let head = Head {
+        version: Version::Two,
         actor: place.me,
         opening,
         bank: place.bank,
@@ -489,54 +490,54 @@ fn again_at<R: Host>(
     }
 }
 
-/// The actor of a place after the history of its journal.
+/// The actor of a place after the events of its journal.
 fn again_of<P: Pace>(
     alloc: Global,
     place: &Place<'_>,
     journal: &Journal,
     pace: &mut P,
 ) -> Result<Replayed<Party>, ServeFault>
-    ensures { IfOk result (λ again. IsAgain ⟦<Party as Actor>⟧ journal.now.head.opening again
+    ensures { IfOk result (λ again. IsAgainOf journal.now.head.opening again
         journal.now.history.items) }
 {
-    let history = journal.history.as_slice();
+    let entries = journal.history.as_slice();
     match journal.head.opening {
-        Some(boot) => site_again(alloc, place, boot, history, pace),
-        None => other_again(alloc, place, history, pace),
+        Some(boot) => site_again(alloc, place, boot, entries, pace),
+        None => other_again(alloc, place, entries, pace),
     }
 }
 
-/// The node or the client of a place after a history.
+/// The node or the client of a place after the events of a journal.
 fn other_again<P: Pace>(
     alloc: Global,
     place: &Place<'_>,
-    history: &[Entry],
+    entries: &[Entry],
     pace: &mut P,
 ) -> Result<Replayed<Party>, ServeFault>
-    ensures { IfOk result (λ again. IsAgain ⟦<Party as Actor>⟧ None again history.now) }
+    ensures { IfOk result (λ again. IsAgainOf None again entries.now) }
 {
     if let ActorId::Site(_) = ActorId::of(place.me) {
         return Err(ServeFault::Other(EvidenceWhy::Stranger));
     }
     let party = other_party(alloc, place)?;
-    replay_result(replay(alloc, party, history, pace))
+    replay_result(replay(alloc, party, entries, pace))
 }
 
-/// The site of a place after a history.
+/// The site of a place after the events of a journal.
 fn site_again<P: Pace>(
     alloc: Global,
     place: &Place<'_>,
     boot: Boot,
-    history: &[Entry],
+    entries: &[Entry],
     pace: &mut P,
 ) -> Result<Replayed<Party>, ServeFault>
-    ensures { IfOk result (λ again. IsAgain ⟦<Party as Actor>⟧ (Some boot) again history.now) }
+    ensures { IfOk result (λ again. IsAgainOf (Some boot) again entries.now) }
 {
     let ActorId::Site(site) = ActorId::of(place.me) else {
         return Err(ServeFault::Other(EvidenceWhy::Stranger));
     };
     let party = site_party(alloc, place, site, MemCell::of(boot))?;
-    replay_result(replay(alloc, party, history, pace))
+    replay_result(replay(alloc, party, entries, pace))
 }
 
 /// The actor that replayed its history, or the fault that is reported instead.

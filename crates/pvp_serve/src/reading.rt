@@ -1,6 +1,6 @@
 //! How a start reports its progress in the journal that it reads.
 
-use pvp_logs::Pace;
+use pvp_journal::Pace;
 use std::io::Eprint;
 use std::time::{Clock, Duration, Instant};
 

@@ -19,7 +19,7 @@ ghost use Rattle.std.specs.Prelude.{
 ghost use Rattle.std.specs.Borrow.{Lends, sem};
 ghost use Rattle.std.specs.List.{list_any};
 ghost use Rattle.pvp_rooms.specs.Gates.{Hears};
-ghost use Rattle.pvp_logs.specs.Rooms.{bank_texts};
+ghost use Rattle.pvp_journal.specs.Rooms.{bank_texts};
 ghost use Rattle.pvp_serve.specs.contracts.serving.Serving.{the_row};
 ghost use Rattle.pvp_serve.specs.Serving.{
   Comes,
@@ -45,11 +45,10 @@ ghost use Rattle.pvp_serve.specs.Serving.{
 };
 
 use crate::admission::Seen;
-use crate::opening::log_fault;
-use pvp_intake::Arrival;
-use pvp_logs::{JournalRoom, Journaled, Letter, Log, Posted};
+use crate::written::{Written, put_back, write_in};
+use pvp_journal::{JournalRoom, Journaled, Letter, Log, Posted};
+use pvp_links::{Arrival, Outbox, Served};
 use pvp_parties::{Party, PartyEvent, PartyOf, PartyOutcome};
-use pvp_peers::{Outbox, Served};
 use pvp_places::ServeFault;
 use pvp_rooms::{Actor, Input};
 use pvp_types::Reply;
@@ -327,19 +326,21 @@ impl<C: BootCell, L: Log, O: Outbox + Drop> Serving<C, L, O> {
         ensures rest { self.new ≡ record self.old { room = self.new.room; out = self.new.out } }
     {
         let syncs = self.syncs && leaves(is_told, self.waiting_letters());
-        let letters = write_in(&mut self.room, alloc, syncs)?;
-        if letters.is_empty() {
-            return Ok(letters);
+        let written = write_in(&mut self.room, alloc, syncs)?;
+        if written.letters().is_empty() {
+            return Ok(written.into_letters());
         }
-        self.hand_out(rt, alloc, letters.as_slice());
-        Ok(letters)
+        self.hand_out(rt, alloc, &written);
+        Ok(written.into_letters())
     }
 
-    /// Hands out what these events sent, in order.
-    fn hand_out<T: Wait>(&mut self, rt: &T, alloc: Global, letters: &[Letter<PartyOutcome>])
-        ensures handed { Hears O.got self.old.out self.new.out (puts_in self.old.me letters.now) }
+    /// Hands out what the events of a written batch sent, in order.
+    fn hand_out<T: Wait>(&mut self, rt: &T, alloc: Global, written: &Written<PartyOutcome>)
+        ensures handed { Hears O.got self.old.out self.new.out
+            (puts_in self.old.me written.now.letters.items) }
         ensures rest { self.new ≡ record self.old { out = self.new.out } }
     {
+        let letters = written.letters();
         for letter in letters {
             let sent = PartyOf::<C>::sent_envelopes(&letter.outcome);
             self.out.put(rt, alloc, self.me, letter.clock, sent);
@@ -394,44 +395,6 @@ fn step_in<A: Journaled, L: Log>(
         Posted::NoMemory => Err(ServeFault::NoMemory),
         Posted::ClockSpent => Err(ServeFault::Clock),
     }
-}
-
-/// Writes what waits in the room that stands here, and answers it. After `Err` the room is gone.
-fn write_in<A: Journaled, L: Log>(
-    stands: &mut Option<JournalRoom<A, L>>,
-    alloc: Global,
-    syncs: bool,
-) -> Result<Vec<Letter<A::Outcome>>, ServeFault>
-    ensures written { IfOk result (λ letters. HasFlushed A.Actor A.texts L.seen
-        stands.old stands.new letters.items) }
-    ensures letters { IfOk result (λ letters. letters.items ≡ waiting_in stands.old) }
-    ensures idle { IsIdle stands.old → IsOk result × (stands.new ≡ stands.old) }
-    ensures refused { IfErr result (λ fault. IsUnwritten stands.old fault) }
-    ensures gone { OnErr result (stands.new ≡ None) }
-    ensures synced { IfOk result (λ letters. IsTrue syncs → letters.items ≢ [] →
-        OutlivesIn L.seen L.synced stands.new) }
-{
-    let Some(room) = stands.take() else {
-        return Err(ServeFault::Unfit);
-    };
-    if room.is_flushed() {
-        put_back(stands, room);
-        return Ok(Vec::new(alloc));
-    }
-    match room.flush(alloc, syncs) {
-        Ok((room, letters)) => {
-            put_back(stands, room);
-            Ok(letters)
-        }
-        Err(fault) => Err(log_fault(fault)),
-    }
-}
-
-/// What was taken from here stands here again.
-fn put_back<T: Drop>(stands: &mut Option<T>, taken: T)
-    ensures { stands.new ≡ Some taken }
-{
-    *stands = Some(taken);
 }
 
 /// Whether something leaves: what happened is printed, or an event sent something.

@@ -1,7 +1,7 @@
 //! A site that is served.
 ghost use Rattle.std.specs.Prelude.{◌≡◌, ◌+◌, ◌-◌, ◌^◌, ◌<◌, ◌&&◌, ◌||◌, if◌then◌else◌, length, min, not, None, IfOk, IfErr, OnOk};
 ghost use Rattle.std.specs.List.{list_any};
-ghost use Rattle.pvp_logs.specs.Rooms.{bank_texts};
+ghost use Rattle.pvp_journal.specs.Rooms.{bank_texts};
 ghost use Rattle.pvp_places.specs.declared.serving.ServeFault.TheVariants.{NoMemory};
 ghost use Rattle.pvp_serve.specs.Admission.{flood_after, fresh_quota, quota_after};
 ghost use Rattle.pvp_serve.specs.declared.inbox.Inbox.TheVariants.{Frame};
@@ -60,8 +60,8 @@ use crate::serving::{Lost, Serving, Standing};
 use crate::sifting::sift;
 use crate::telling::Teller;
 use pvp_book::Book;
-use pvp_intake::Arrival;
-use pvp_logs::Log;
+use pvp_journal::Log;
+use pvp_links::Arrival;
 use pvp_parties::{PartyEvent, PartyOf};
 use pvp_places::ServeFault;
 use pvp_rooms::Actor;

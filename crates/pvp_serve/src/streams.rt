@@ -1,6 +1,6 @@
 //! A stream between two actors: one thread reads it, another writes it.
 ghost use Rattle.std.specs.Prelude.{◌≡◌, ◌+◌, ◌++◌, None, Some, OnOk, OnErr, min, nat_lt, if◌then◌else◌};
-ghost use Rattle.pvp_intake.specs.Sealing.{sealed_text};
+ghost use Rattle.pvp_links.specs.Sealing.{sealed_text};
 ghost use Rattle.vr_types.specs.Actors.{id_of};
 ghost use Rattle.pvp_serve.specs.Lanes.{is_beyond, piece_text};
 
@@ -9,7 +9,7 @@ use crate::inbox::{Inbox, tell};
 use crate::lanes::{Outgoing, lane_to};
 use crate::ticking::latest_clock;
 use crossbeam_channel::Sender;
-use pvp_intake::{Hearer, Intake, Link, Piece, hear_all, put_frame, put_ping};
+use pvp_links::{Hearer, Intake, Link, Piece, hear_all, put_frame, put_ping};
 use std::alloc::{AllocError, Global};
 use std::io::{self, Write};
 use std::net::{Shutdown, TcpStream};

@@ -16,7 +16,7 @@ use crate::admission::is_full_at;
 use crate::host::Host;
 use crate::lanes::Lane;
 use crate::serving::{Lost, Standing};
-use pvp_intake::{LinkEnd, LinkFault};
+use pvp_links::{LinkEnd, LinkFault};
 use pvp_trace::names::push_actor;
 use pvp_types::Setup;
 use std::alloc::{AllocError, Global};

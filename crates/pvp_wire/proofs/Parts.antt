@@ -50,16 +50,3 @@ each_suc : {A : Type 0} (ItemFits : A → Type 0) (xs : List A) (j : ℕ) (d : A
 each_suc ItemFits [] j d lt h r = absurd (omega arith)
 each_suc ItemFits (x ∷ xs) zero d lt h r = (r, tt)
 each_suc ItemFits (x ∷ xs) (suc j) d lt h r = (h.0, each_suc ItemFits xs j d (omega arith) h.1 r)
-
-pub each_more : {A : Type 0} (ItemFits : A → Type 0) (xs : List A) (j : ℕ) (d : A) → j < length xs → EachFits ItemFits (take j xs) → ItemFits (get_or xs j d)
-    → EachFits ItemFits (take (j + 1) xs)
-each_more ItemFits xs j d lt h r =
-    let k : suc j ≡ j + 1 = omega arith in
-    subst (λ (i : ℕ). EachFits ItemFits (take i xs)) k (each_suc ItemFits xs j d lt h r)
-
-pub flat_more : {A : Type 0} (spell : A → List ℕ) (xs : List A) (j : ℕ) (d : A) → j < length xs
-    → flat_map spell (take (j + 1) xs) ≡ flat_map spell (take j xs) ++ spell (get_or xs j d)
-flat_more spell xs j d lt =
-    let k : j + 1 ≡ suc j = omega arith in
-    ap (λ (i : ℕ). flat_map spell (take i xs)) k ∙ ap (flat_map spell) (take-suc xs j d lt) ∙ flat_map-append spell (take j xs) (get_or xs j d ∷ [])
-    ∙ ap (λ (x : List ℕ). flat_map spell (take j xs) ++ x) (append-nil (spell (get_or xs j d)))

@@ -1,9 +1,10 @@
 -- What a world shows of its sites, nodes and clients tells whether its bank has what it needs to go on.
 use Rattle.std.proofs.Common.{◌≡◌, ◌↔◌, ℕ, zero, suc, ◌+◌, ◌-◌, ◌*◌, ◌<◌, ◌≤◌, Bool, true, false, ◌&&◌, nat_lt, nat_le, cond, List, [], ◌∷◌, length, get_or, take, slice_get, Some, count_by, min, refl, sym, ap, ◌∙◌, subst, arith, true≢false}
-use Rattle.std.specs.Prelude.{Contains, IsTrue, sum_by}
+use Rattle.std.specs.Prelude.{if◌then◌else◌, Contains, IsTrue, is_some, sum_by}
 use Rattle.std.specs.List.{list_all, range_with_len}
 use Rattle.std.proofs.lemmas.Bool.{and_parts}
 use Rattle.std.proofs.lemmas.Bool.Decides.{nat_tests}
+use Rattle.std.proofs.lemmas.List.{length-take}
 use Rattle.std.proofs.lemmas.Option.{slice_get_within}
 use Rattle.std.proofs.lemmas.List.Sums.{sum_by-cons, sum_by_more}
 use Rattle.pvp_types.specs.declared.setup.Setup.{Setup}
@@ -14,19 +15,26 @@ use Rattle.vr_types.specs.declared.cell.Boot.{Boot}
 use Rattle.vr_types.specs.declared.limits.TheConstants.{MAX_ROWS}
 use Rattle.vr_types.specs.Cell.{max_number}
 use Rattle.vr_types.specs.Group.{sites}
-use Rattle.vr_types.specs.Site.{Site, is_running}
-use Rattle.vr_site.specs.Replica.{ShownSite}
+use Rattle.vr_types.specs.Handling.{machine_of}
+use Rattle.vr_types.specs.Site.{Site, is_running, executed_rows}
+use Rattle.vr_site.specs.Replica.{ShownSite, site_shown}
+use Rattle.pvp_book.specs.Answer.{Row, book_of}
+use Rattle.pvp_book.specs.Ledger.{Ledger, opening, outstanding_from, outstanding_orders}
 use Rattle.rtgs_node.specs.Node.{Node}
 use Rattle.rtgs_node.specs.Shown.{ShownNode}
 use Rattle.agreement.specs.Progress.{runs_at}
 use Rattle.agreement.proofs.Onward as alone
 use Rattle.headline.specs.Bank.{Bank}
+use Rattle.headline.specs.Client.{Client}
+use Rattle.headline.specs.Machine.{book}
 use Rattle.headline.specs.Legal.{LegalList}
 use Rattle.headline.specs.Progress as progress
 use Rattle.headline.proofs.Basics.{none-some, some-same, there, place_of}
+use Rattle.headline.proofs.Books.{held-is, held-setup}
 use Rattle.headline.proofs.Reached.{legal-holds}
+use Rattle.pvp_world.specs.Client.{ShownClient}
 use Rattle.pvp_world.specs.World.{ShownWorld, ShowsBank, IsAt}
-use Rattle.pvp_world.specs.Progress.{CanGoOn, GoesOn, running_count, unanswered_count, has_room, can_go_on}
+use Rattle.pvp_world.specs.Progress.{CanGoOn, GoesOn, running_count, unanswered_count, waiting_count, executed_in, may_be_open, still_asked, has_room, can_go_on}
 use Rattle.pvp_world.proofs.Proved.{shows_there}
 
 -- LISTS OF WHICH EACH IS SO OF THE ONE IN ITS PLACE
@@ -139,10 +147,23 @@ module _ {B : Type 0} (held : B → Boot) (world : ShownWorld B) (bank : Bank) (
       bank.nodes shows.nodes.count
       (λ c v x at at'. ap (λ (s : ShownNode). length s.node.notices - s.node.answered) (shows.nodes.each c v x at at'))
 
+  waiting_are : waiting_count world ≡ progress.waiting_count bank
+  waiting_are =
+      each_count (λ (s : ShownClient). is_some s.client.waiting) (λ (x : Client). is_some x.waiting) world.clients bank.clients shows.clients.count
+      (λ k v x at at'. ap (λ (s : ShownClient). is_some s.client.waiting) (shows.clients.each k v x at at'))
+
   -- a site of the bank has room where what is shown of it has
   record HasRoom (x : Site Cmd) : Type 0 where
     view : x.view + 2 * (2 * faults world.setup + 1) ≤ max_number
-    space : 2 * (length x.log + length bank.clients) + progress.unanswered_count bank ≤ MAX_ROWS
+    space : length x.log + progress.may_be_open world.setup x + 2 * progress.waiting_count bank + progress.unanswered_count bank < MAX_ROWS
+
+  -- and as many orders may be open as it shows
+  open_is : (i : ℕ) (v : ShownSite Cmd Setup B) (x : Site Cmd) → slice_get world.sites i ≡ Some v → slice_get bank.sites i ≡ Some x
+      → may_be_open v ≡ progress.may_be_open world.setup x
+  open_is i v x at at' =
+      let is = shows.sites.each i v x at at' in
+      ap (λ (s : Setup). progress.open_in s (executed_in v) + (length v.volatile.log - length (executed_in v))) is.made_from
+      ∙ ap (λ (y : Site Cmd). progress.may_be_open world.setup y) (sym is.site)
 
   room_there : (i : ℕ) (v : ShownSite Cmd Setup B) (x : Site Cmd) → slice_get world.sites i ≡ Some v → slice_get bank.sites i ≡ Some x
       → has_room world v ≡ true → HasRoom x
@@ -152,12 +173,13 @@ module _ {B : Type 0} (held : B → Boot) (world : ShownWorld B) (bank : Bank) (
       let long = ap (λ (y : Site Cmd). length y.log) is in
       let parts =
       and_parts (nat_le (v.volatile.view + 2 * (2 * faults world.setup + 1)) max_number)
-      (nat_le (2 * (length v.volatile.log + length world.clients) + unanswered_count world) MAX_ROWS) has in
+      (nat_lt (length v.volatile.log + may_be_open v + still_asked world) MAX_ROWS) has in
       let a = le_of (v.volatile.view + 2 * (2 * faults world.setup + 1)) max_number parts.0 in
-      let b = le_of (2 * (length v.volatile.log + length world.clients) + unanswered_count world) MAX_ROWS parts.1 in
-      let c = shows.clients.count in
+      let b = lt_of (length v.volatile.log + may_be_open v + still_asked world) MAX_ROWS parts.1 in
+      let c = waiting_are in
       let d = notices_are in
-      record { view = omega arith; space = omega arith }
+      let o = open_is i v x at at' in
+      record { view = omega (arith, a, view); space = omega (arith, b, c, d, o, long) }
 
   room_shown : (i : ℕ) (v : ShownSite Cmd Setup B) (x : Site Cmd) → slice_get world.sites i ≡ Some v → slice_get bank.sites i ≡ Some x → HasRoom x
       → has_room world v ≡ true
@@ -165,16 +187,17 @@ module _ {B : Type 0} (held : B → Boot) (world : ShownWorld B) (bank : Bank) (
       let is = (shows.sites.each i v x at at').site in
       let view = ap (λ (y : Site Cmd). y.view) is in
       let long = ap (λ (y : Site Cmd). length y.log) is in
-      let c = shows.clients.count in
+      let c = waiting_are in
       let d = notices_are in
+      let o = open_is i v x at at' in
       let e = has.view in
       let g = has.space in
       both (nat_le (v.volatile.view + 2 * (2 * faults world.setup + 1)) max_number)
-      (nat_le (2 * (length v.volatile.log + length world.clients) + unanswered_count world) MAX_ROWS)
-      (le_yes (v.volatile.view + 2 * (2 * faults world.setup + 1)) max_number (omega arith))
-      (le_yes (2 * (length v.volatile.log + length world.clients) + unanswered_count world) MAX_ROWS (omega arith))
+      (nat_lt (length v.volatile.log + may_be_open v + still_asked world) MAX_ROWS)
+      (le_yes (v.volatile.view + 2 * (2 * faults world.setup + 1)) max_number (omega (arith, e, view)))
+      (lt_yes (length v.volatile.log + may_be_open v + still_asked world) MAX_ROWS (omega (arith, g, c, d, o, long)))
 
-  can_there : can_go_on world ≡ true → progress.CanGoOn (faults world.setup) bank
+  can_there : can_go_on world ≡ true → progress.CanGoOn world.setup (faults world.setup) bank
   can_there can = record {
     sites = record {
       many = let m = lt_of (faults world.setup) (running_count world) parts.0 in let r = run_is in omega arith;
@@ -194,7 +217,7 @@ module _ {B : Type 0} (held : B → Boot) (world : ShownWorld B) (bank : Bank) (
           let v = has_place world.sites t.0 (omega arith) in
           room_there t.0 v.0 x v.1 t.1 (all_at (has_room world) world.sites t.0 v.0 parts.1 v.1)
 
-  can_shown : progress.CanGoOn (faults world.setup) bank → can_go_on world ≡ true
+  can_shown : progress.CanGoOn world.setup (faults world.setup) bank → can_go_on world ≡ true
   can_shown can = both (nat_lt (faults world.setup) (running_count world)) (list_all (has_room world) world.sites)
       (lt_yes (faults world.setup) (running_count world) (let m = can.sites.many in let r = run_is in omega arith))
       (all_of (has_room world) world.sites each)
@@ -206,6 +229,38 @@ module _ {B : Type 0} (held : B → Boot) (world : ShownWorld B) (bank : Bank) (
           let x = has_place bank.sites i (omega arith) in
           let in' = there bank.sites i x.0 x.1 in
           room_shown i v x.0 at x.1 (record { view = can.sites.room x.0 in'; space = can.space x.0 in' })
+
+-- the orders that a running site's book shows as open
+pub book_opens : {B : Type 0} (held : B → Boot) (v : ShownSite Cmd Setup B) → is_running v.volatile.status ≡ true
+    → let shown = machine_of book (opening v.setup) (site_shown held v []) in
+    length (outstanding_orders shown.setup shown.entries) + (length v.volatile.log - v.volatile.done) ≡ may_be_open v
+book_opens held v runs =
+    let rows_are : executed_rows (site_shown held v []) ≡ take v.volatile.done v.volatile.log =
+    ap (λ (b : Bool). if b then take v.volatile.done v.volatile.log else []) runs in
+    let same : executed_in v ≡ take v.volatile.done v.volatile.log = rows_are in
+    let book_is =
+    ap (λ (l : Ledger). length (outstanding_orders l.setup l.entries)) (held-is (opening v.setup) (executed_rows (site_shown held v [])))
+    ∙ ap (λ (s : Setup). length (outstanding_orders s (book_of v.setup (executed_rows (site_shown held v [])))))
+    (held-setup (opening v.setup) (executed_rows (site_shown held v []))) in
+    let long = ap (length {A = Row}) same in
+    let cut = length-take v.volatile.done v.volatile.log in
+    omega (arith, book_is, long, cut)
+
+-- nothing is open before any row
+opens_none : (setup : Setup) → progress.open_in setup [] ≡ 0
+opens_none setup = by (length setup.currencies) 0
+  where
+    by : (n c : ℕ) → length (outstanding_from c n []) ≡ 0
+    by zero c = refl
+    by (suc n) c = by n (c + 1)
+
+-- a site that does not run shows none, and each row may be one
+pub none_opens : {B : Type 0} (v : ShownSite Cmd Setup B) → is_running v.volatile.status ≡ false → length v.volatile.log ≡ may_be_open v
+none_opens v rests =
+    let same : executed_in v ≡ [] = ap (λ (b : Bool). if b then take v.volatile.done v.volatile.log else []) rests in
+    let none = ap (progress.open_in v.setup) same ∙ opens_none v.setup in
+    let long = ap (length {A = Row}) same in
+    omega (arith, none, long)
 
 -- a legal list has 2f+1 sites
 all_there : {setup : Setup} {f : ℕ} (list : LegalList setup f) → length list.bank.sites ≡ 2 * f + 1
@@ -222,7 +277,7 @@ module _ {B : Type 0} (held : B → Boot) (world : ShownWorld B) (at : IsAt held
     (λ each. can_shown held world at.list.bank at.shows (all_there at.list) (each at.list at.cells at.moves)),
   )
 
-  pub goes_on : ((setup : Setup) (f : ℕ) → 1 ≤ f → (list : LegalList setup f) → progress.CanGoOn f list.bank → progress.Progresses list)
+  pub goes_on : ((setup : Setup) (f : ℕ) → 1 ≤ f → (list : LegalList setup f) → progress.CanGoOn setup f list.bank → progress.Progresses list)
       → IsTrue (can_go_on world) → GoesOn world
   goes_on progresses can list cells moves =
       progresses world.setup (faults world.setup) (valid-sites world.setup list.valid).some list

@@ -3,6 +3,8 @@ use Rattle.std.specs.Prelude.{ℕ, List, codes}
 use Rattle.vr_types.specs.declared.event.SiteFault.{SiteFault}
 use Rattle.vr_types.specs.declared.event.SiteFault.TheVariants as site
 use Rattle.rtgs_node.specs.Fault as node
+use Rattle.pvp_world.specs.declared.fault.FallFault.{FallFault}
+use Rattle.pvp_world.specs.declared.fault.FallFault.TheVariants.{Step as OfStep, Elsewhere}
 use Rattle.pvp_world.specs.declared.fault.WorldFault.{WorldFault}
 use Rattle.pvp_world.specs.declared.fault.WorldFault.TheVariants.{NoSuchEnvelope, NoSuchActor, Outstanding, Site, Node, Spent, NoMemory}
 
@@ -24,3 +26,8 @@ fault_text (Site fault) = site_fault_text fault
 fault_text (Node fault) = node.fault_text fault
 fault_text Spent = codes "C1"
 fault_text NoMemory = codes "G5"
+
+-- and a fall that was not taken by the step's, or by its own
+abbrev pub fall_fault_text : FallFault → List ℕ
+fall_fault_text (OfStep fault) = fault_text fault
+fall_fault_text Elsewhere = codes "G6"

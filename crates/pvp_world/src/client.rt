@@ -38,6 +38,7 @@ impl Model for Client {
 }
 
 impl Client {
+    ghost use Rattle.std.specs.Prelude.{is_some};
     ghost use Rattle.pvp_types.specs.Setup.{IsValid, faults};
     ghost use Rattle.headline.specs.declared.step.ClientEvent.TheVariants.{Submits, Takes, Beats};
     ghost use Rattle.headline.specs.Client.{opening_client};
@@ -84,7 +85,7 @@ impl Client {
         ensures refused { IfErr result
             (IsRefusal self.old self.new (step_of self.old (Submits cmd))) }
     {
-        if self.waiting.is_some() {
+        if self.is_waiting() {
             return Err(ClientFault::Outstanding);
         }
         let Some(number) = self.number.checked_add(1) else {
@@ -105,7 +106,7 @@ impl Client {
         ensures { IsStep self.old self.new (step_of self.old (Takes envelope)) result.items }
     {
         if let MsgOf::Reply(msg) = envelope.msg {
-            if self.waiting.is_some() && msg.number == self.number {
+            if self.is_waiting() && msg.number == self.number {
                 self.waiting = None;
                 self.answer = Some(msg.reply);
             }
@@ -137,6 +138,13 @@ impl Client {
         ensures { result ≡ self.now.client.number }
     {
         self.number
+    }
+
+    /// Whether it waits for the answer to its last request.
+    pub fn is_waiting(&self) -> bool
+        ensures { result ≡ is_some self.now.client.waiting }
+    {
+        self.waiting.is_some()
     }
 
     /// The answer to its last request, if it came.

@@ -84,3 +84,18 @@ fn site_code(fault: SiteFault) -> &'static str
         SiteFault::NotMine => "S7",
     }
 }
+
+/// Prints the fault's code: the step's, or G6.
+impl fmt::Display for FallFault {
+    ghost use Rattle.std.specs.Prelude.{Some};
+    ghost use Rattle.pvp_world.specs.Fault.{fall_fault_text};
+
+    ghost output = { λ fault. Some (fall_fault_text fault) };
+
+    fn fmt<W: fmt::Write>(&self, f: &mut fmt::Formatter<W>) -> fmt::Result {
+        match self {
+            FallFault::Step(fault) => write!(f, "{fault}"),
+            FallFault::Elsewhere => f.write_str("G6"),
+        }
+    }
+}

@@ -1,6 +1,7 @@
 //! The world of a bank: the calls that take steps, and what can be read of it.
-ghost use Rattle.std.specs.Prelude.{◌≡◌, ◌≢◌, ◌+◌, ◌*◌, ◌<◌, ◌==◌, ◌-◌, ◌≤◌, [], true, false, None, Some, Err, List, length, map, slice_get, if◌then◌else◌, IfOk, OnOk, IfErr, OnErr, option_map, vec_len, vec_capacity, min, count_by, IsTrue, ◌↔◌};
+ghost use Rattle.std.specs.Prelude.{◌≡◌, ◌≢◌, ◌+◌, ◌*◌, ◌<◌, ◌==◌, ◌-◌, ◌≤◌, [], true, false, None, Some, Err, List, length, map, slice_get, if◌then◌else◌, IfOk, OnOk, IfErr, OnErr, option_map, vec_len, vec_capacity, min, count_by, is_some, IsTrue, ◌↔◌};
 ghost use Rattle.vr_types.specs.Site.{is_running};
+ghost use Rattle.pvp_world.specs.Progress.{may_be_open};
 
 mod falls;
 
@@ -56,7 +57,7 @@ impl<C: BootCell> World<C> {
     ghost use Rattle.headline.specs.declared.step.Turn.TheVariants.{OfSite, OfNode, OfClient};
     ghost use Rattle.headline.specs.Bank.{turn};
     ghost use Rattle.pvp_world.specs.World.{IsAt, IsProved};
-    ghost use Rattle.pvp_world.specs.Progress.{CanGoOn, GoesOn, can_go_on, unanswered_count, has_room};
+    ghost use Rattle.pvp_world.specs.Progress.{CanGoOn, GoesOn, can_go_on, unanswered_count, still_asked, has_room};
     ghost use Rattle.std.specs.List.{list_all};
     ghost use Rattle.pvp_world.specs.Steps.{Applies, AreTaken, IsStopped, AreReliable, TellsFailures, failures, has_number, has_actor, IsWhy, is_world_fall, InTurn};
     ghost use Rattle.pvp_world.specs.declared.fault.WorldFault.TheVariants.{Site as OfSiteFault, NoMemory as OutOfMemory};
@@ -132,7 +133,8 @@ impl<C: BootCell> World<C> {
     }
 
     /// Whether the bank has what it needs to go on: more sites run than may fail at once, no site's view is near its
-    /// end, and each log has room for what may still be asked. If it has, the trail is no dead end: by deliveries,
+    /// end, and each log has room for what is open and one row more: two rows for each client that waits, one for each
+    /// notice without an answer, each open order and each row that is not executed. If it has, the trail is no dead end: by deliveries,
     /// beats, timers and restarts alone the bank can go on until its sites work in one view with one log, which begins
     /// with all that any site ever executed; each request and each notice is answered, each order is done or returned,
     /// and reported to the book; and nothing is on the way: each node's account is the figure of that log's book.
@@ -209,8 +211,16 @@ impl<C: BootCell> World<C> {
     fn have_room(&self) -> bool
         ensures { result ≡ list_all (has_room self.now) self.now.sites }
     {
-        let notices = self.unanswered_count();
-        self.sites.iter().all(|site| self.has_room(site, notices))
+        let asked = self.still_asked();
+        self.sites.iter().all(|site| self.has_room(site, asked))
+    }
+
+    /// How many rows are still to come of what was asked; if there are more than a log has room for, one more than that.
+    fn still_asked(&self) -> usize
+        ensures { result ≡ min (still_asked self.now) (MAX_ROWS + 1) }
+    {
+        let waiting = waiting_count(self.clients.as_slice()).min(MAX_ROWS + 1);
+        (2 * waiting + self.unanswered_count()).min(MAX_ROWS + 1)
     }
 
     /// How many notices of nodes are not answered; if there are more than a log has room for, one more than that.
@@ -224,18 +234,16 @@ impl<C: BootCell> World<C> {
         count
     }
 
-    /// Whether a site's view is not near its end, and its log has room for what may still be asked.
-    fn has_room(&self, site: &Replica<Book, C>, notices: usize) -> bool
-        requires { notices ≡ min (unanswered_count self.now) (MAX_ROWS + 1) }
+    /// Whether a site's view is not near its end, and its log has room for what is open.
+    fn has_room(&self, site: &Replica<Book, C>, asked: usize) -> bool
+        requires { asked ≡ min (still_asked self.now) (MAX_ROWS + 1) }
         ensures { result ≡ has_room self.now site.now }
     {
         let sites = 2 * u64::from(self.setup.faults()) + 1;
         let rows = site.log_len();
-        let clients = self.clients.len();
         u64::from(site.view()) + 2 * sites <= u64::from(u32::MAX)
             && rows <= MAX_ROWS
-            && clients <= MAX_ROWS
-            && 2 * (rows + clients) + notices <= MAX_ROWS
+            && rows + may_be_open(site) + asked < MAX_ROWS
     }
 
     /// Takes a step.
@@ -409,6 +417,35 @@ fn running_count<C: BootCell>(sites: &[Replica<Book, C>]) -> usize
         }
     }
     count
+}
+
+/// How many of these clients wait for an answer.
+fn waiting_count(clients: &[Client]) -> usize
+    ensures { result ≡ count_by (λ client. is_some client.client.waiting) clients.now }
+{
+    let mut count = 0;
+    for client in clients {
+        if client.is_waiting() {
+            count += 1;
+        }
+    }
+    count
+}
+
+/// How many orders may be open in a site's log: those of its book, and one for each row that it has not executed. If
+/// there are more than a log has room for, one more than that.
+fn may_be_open<C: BootCell>(site: &Replica<Book, C>) -> usize
+    ensures { result ≡ min (may_be_open site.now) (MAX_ROWS + 1) }
+{
+    let rows = site.log_len();
+    let count = match site.machine() {
+        Some(book) => {
+            let rest = rows.saturating_sub(site.done());
+            book.open_count().saturating_add(rest)
+        }
+        None => rows,
+    };
+    count.min(MAX_ROWS + 1)
 }
 
 /// Makes room for one move and for all that a node or a client sends at once. `Err` where memory is refused.

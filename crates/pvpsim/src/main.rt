@@ -1,8 +1,8 @@
 //! `pvpsim`: runs scripts on a settlement bank and prints its books, and begins and serves actors of a bank.
 #![tactic(auto)]
 
+use pvp_audit::DiskShelf;
 use pvp_command::{Disk, Piped, Served, command_on, no_words, served_by, tell_served};
-use pvp_evidence::DiskShelf;
 use pvp_places::{ServeFault, Task};
 use pvp_serve::{begin, serve};
 use std::io::BufReader;

@@ -209,7 +209,7 @@ impl Node {
     }
 
     /// How many orders were returned.
-    pub fn returned_count(&self) -> usize
+    pub fn returned(&self) -> usize
         ensures { result ≡ length self.now.node.returned }
     {
         self.returned.len()

@@ -160,10 +160,6 @@ pick_kept {C} votes best new p t = record {
     by_place vote (inr other) (inl at) = not_before vote best (p.first vote at)
     by_place vote (inr other) (inr e) = subst (λ v. IsNotBefore v best) e other.1
 
--- a vote that is alone
-pub pick_alone : {C : Type 0} (vote : Vote C) → IsPick (vote ∷ []) vote
-pick_alone vote = pick-right (vote ∷ []) (omega arith)
-
 -- the vote that the pick is
 pub picked : {C : Type 0} (votes ballot : List (Vote C)) (at : ℕ) (vote : Vote C) → slice_get votes at ≡ Some vote → IfSome (slice_get votes at) (IsPick ballot)
     → IsPick ballot vote

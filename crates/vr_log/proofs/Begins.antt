@@ -37,14 +37,6 @@ begins_is {C} same tells b n own log low h =
     back : length (take n own) ≡ n → take n log ≡ take n own → take n own ≡ take (length (take n own)) log
     back len e = sym e ∙ ap (λ k. take k log) (sym len)
 
--- so long are the rows that it says are there
-pub begins_within : {A : Type 0} (n : ℕ) (own log : List A) → n ≤ length own → take n log ≡ take n own → n ≤ length log
-begins_within n own log low e =
-    let a = ap length e in
-    let b = length-take n log in
-    let c = length-take-le n own low in
-    omega arith
-
 -- a row after the first ones that stay
 pub row_there : {A : Type 0} (own rows : List A) (base at : ℕ) (d : A) → base ≤ length own → base ≤ at
     → get_or (take base own ++ rows) at d ≡ get_or rows (at - base) d

@@ -3,7 +3,7 @@ use Rattle.std.proofs.Common.{◌≡◌, ℕ, zero, suc, ◌+◌, ◌-◌, ◌*�
 use Rattle.std.specs.List.{enumerate_from, last_or, range_with_len, filter_map, cons_option}
 use Rattle.std.specs.Option.{option_map_or}
 use Rattle.std.proofs.lemmas.Option.{slice_get_within, get_or_from_slice_get}
-use Rattle.std.proofs.lemmas.List.{take_more, drop_more}
+use Rattle.std.proofs.lemmas.List.{drop_more}
 use Rattle.std.proofs.lemmas.List.Elements.{filter_map-append}
 use Rattle.vr_types.proofs.Lists.{take_next}
 use Rattle.vr_types.specs.declared.row.RowOf.{RowOf}
@@ -34,11 +34,6 @@ page-more rows page =
 pub lent-page : {X : Type 0} (found lent : List X) → Some lent ≡ as_page found → lent ≡ found
 lent-page [] lent is = absurd cc
 lent-page (x ∷ rest) lent is = cc
-
--- where none is lent there are none
-pub no-page : {X : Type 0} (found : List X) → None ≡ as_page found → [] ≡ found
-no-page [] is = refl
-no-page (x ∷ rest) is = absurd cc
 
 -- what the first elements have, all have
 pub slice_get-take : {X : Type 0} (xs : List X) (n i : ℕ) (x : X) → slice_get (take n xs) i ≡ Some x → slice_get xs i ≡ Some x

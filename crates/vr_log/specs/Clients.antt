@@ -1,6 +1,7 @@
 -- What the clients' table says.
-use Rattle.std.specs.Prelude.{ℕ, ◌*◌, None, List, Option, drop, get_or, take}
+use Rattle.std.specs.Prelude.{◌≡◌, ℕ, ◌*◌, ◌<◌, ◌≤◌, None, Some, List, Option, drop, get_or, length, slice_get, take}
 use Rattle.std.specs.Option.{option_map_or}
+use Rattle.vr_types.specs.declared.row.RowOf.{RowOf}
 use Rattle.vr_types.specs.Pages.{page_rows}
 use Rattle.vr_log.specs.declared.clients.ClientOf.{ClientOf}
 use Rattle.vr_log.specs.declared.clients.ClientsOf.{ClientsOf}
@@ -32,3 +33,9 @@ executed_in clients client = executed_of (known_in clients client)
 -- the rows of a page, counted from 0; none behind the last one
 abbrev pub rows_at : {X : Type 0} → List X → ℕ → List X
 rows_at rows page = take page_rows (drop (page_rows * page) rows)
+
+-- the client of each of these rows has a place, from the row at `from` up to the one at `to`
+abbrev pub HavePlaces : {R : Type 0} {C : Type 0} → ClientsOf R → ℕ → ℕ → List (RowOf C) → Type 0
+HavePlaces {R} {C} clients from to rows =
+    (at : ℕ) (row : RowOf C) → from ≤ at → at < to → slice_get rows at ≡ Some row
+    → row.client < length clients.table.items

@@ -3,7 +3,7 @@ ghost use Rattle.std.specs.Prelude.{◌≡◌, ℕ, ◌*◌, ◌==◌, ◌<◌, 
 ghost use Rattle.vr_types.specs.declared.row.RowOf.{RowOf};
 ghost use Rattle.vr_types.specs.Rows.{newest};
 ghost use Rattle.vr_types.specs.Pages.{page_rows};
-ghost use Rattle.vr_log.specs.Clients.{executed_of, rows_at};
+ghost use Rattle.vr_log.specs.Clients.{HavePlaces, executed_of, rows_at};
 
 use std::alloc::{AllocError, Global};
 use vr_types::{Machine, PAGE_ROWS, RowOf, RowsOf};
@@ -78,8 +78,19 @@ impl<R: Copy> ClientsOf<R> {
         ensures replies { (q : ℕ) → reply_in self.new q ≡ reply_in self.old q }
     {
         self.reach(client)?;
-        self.table[usize::from(client)].newest = number;
+        self.set_newest(client, number);
         Ok(())
+    }
+
+    /// Notes the number of the newest row of a client that has a place.
+    fn set_newest(&mut self, client: u16, number: u32)
+        requires { client < length self.old.table.items }
+        ensures newest { (q : ℕ) →
+            newest_in self.new q ≡ (if client == q then number else newest_in self.old q) }
+        ensures replies { (q : ℕ) → reply_in self.new q ≡ reply_in self.old q }
+        ensures places { length self.new.table.items ≡ length self.old.table.items }
+    {
+        self.table[usize::from(client)].newest = number;
     }
 
     /// The number of a client's last executed row, and the answer to it. It takes no memory.
@@ -116,6 +127,7 @@ impl<R: Copy> ClientsOf<R> {
     fn reach(&mut self, client: u16) -> Result<(), AllocError>
         ensures known { (q : ℕ) → known_in self.new q ≡ known_in self.old q }
         ensures there { OnOk result (client < length self.new.table.items) }
+        ensures places { length self.old.table.items ≤ length self.new.table.items }
     {
         let place = usize::from(client);
         if place < self.table.len() {
@@ -150,18 +162,31 @@ impl<R: Copy> ClientsOf<R> {
         Ok(())
     }
 
-    /// Sets the newest numbers from a log whose first `done` rows were executed: only the rows behind these are read.
-    /// The answers stay. After an `Err` this may only be dropped.
-    pub fn renumber<C: Copy>(&mut self, log: &RowsOf<C>, done: usize) -> Result<(), AllocError>
+    /// Sets the newest numbers anew from a log whose first `done` rows were executed: only the rows behind these are
+    /// read. The answers stay. An `Err` leaves the table as it was.
+    pub fn rebuild<C: Copy>(&mut self, log: &RowsOf<C>, done: usize) -> Result<(), AllocError>
         ensures ok { OnOk result (((q : ℕ) →
             executed_in self.old q ≡ newest (take done log.now) q) →
             (q : ℕ) → newest_in self.new q ≡ newest log.now q) }
+        ensures err { OnErr result ((q : ℕ) → newest_in self.new q ≡ newest_in self.old q) }
         ensures replies { (q : ℕ) → reply_in self.new q ≡ reply_in self.old q }
     {
+        self.reach_all(log, done)?;
         self.forget_waiting();
         for at in done..log.len() {
             let row = log.row(at);
-            self.note(row.client, row.number)?;
+            self.set_newest(row.client, row.number);
+        }
+        Ok(())
+    }
+
+    /// Makes the places of the clients of all rows from this one on. An `Err` leaves the table as it was.
+    fn reach_all<C: Copy>(&mut self, log: &RowsOf<C>, from: usize) -> Result<(), AllocError>
+        ensures known { (q : ℕ) → known_in self.new q ≡ known_in self.old q }
+        ensures there { OnOk result (HavePlaces self.new from (length log.now) log.now) }
+    {
+        for at in from..log.len() {
+            self.reach(log.row(at).client)?;
         }
         Ok(())
     }
@@ -170,6 +195,7 @@ impl<R: Copy> ClientsOf<R> {
     fn forget_waiting(&mut self)
         ensures newest { (q : ℕ) → newest_in self.new q ≡ executed_in self.old q }
         ensures replies { (q : ℕ) → reply_in self.new q ≡ reply_in self.old q }
+        ensures places { length self.new.table.items ≡ length self.old.table.items }
     {
         for place in 0..self.table.len() {
             self.table[place].newest = self.table[place].executed();

@@ -98,7 +98,7 @@ impl<M: Machine> Kept<M> {
             return self.log.replace_from(base, rows);
         }
         self.log.replace_from(base, rows)?;
-        self.clients.renumber(&self.log, self.done as usize)
+        self.clients.rebuild(&self.log, self.done as usize)
     }
 
     /// Executes the rows up to this place, as far as the log goes, and gives their answers in order.

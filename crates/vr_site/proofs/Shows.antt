@@ -139,31 +139,12 @@ pub mine_is_taken : {C R O : Type 0} (f me : ℕ) (x : Site C) (e : EnvelopeOf C
     → refusal f me x (Deliver e) ≡ None
 mine_is_taken f me x e up mine = rw (up, mine)
 
--- what is for another is refused
-pub other_is_refused : {C R O : Type 0} (f me : ℕ) (x : Site C) (e : EnvelopeOf C R O) → is_mine f me e ≡ false
-    → refusal f me x (Deliver e) ≡ Some (if is_down x.status then NotUp else NotMine)
-other_is_refused f me x e other = by_test (is_down x.status)
-  where
-    by_test : (b : Bool) → (if b then Some NotUp else if not (is_mine f me e) then Some NotMine else None) ≡ Some (if b then NotUp else NotMine)
-    by_test true = refl
-    by_test false = rw other
-
 pub on_ok_then : {T E : Type 0} (result : Result T E) (P Q : Type 0) → (P → Q) → OnOk result P → OnOk result Q
 on_ok_then (Ok value) P Q h p = h p
 on_ok_then (Err error) P Q h p = tt
 
--- a site that is down refuses all but a restart
-pub down_refuses_timer : {C : Type 0} (R O : Type 0) (f me : ℕ) (x : Site C) → is_down x.status ≡ true → refusal {R = R} {O = O} f me x Timer ≡ Some NotUp
-down_refuses_timer R O f me x e = rw e
-
-pub down_refuses_beat : {C : Type 0} (R O : Type 0) (f me : ℕ) (x : Site C) → is_down x.status ≡ true → refusal {R = R} {O = O} f me x Beat ≡ Some NotUp
-down_refuses_beat R O f me x e = rw e
-
 pub down_refuses_crash : {C : Type 0} (R O : Type 0) (f me : ℕ) (x : Site C) → is_down x.status ≡ true → refusal {R = R} {O = O} f me x Crash ≡ Some NotUp
 down_refuses_crash R O f me x e = rw e
-
-pub down_refuses_message : {C R O : Type 0} (f me : ℕ) (x : Site C) (e : EnvelopeOf C R O) → is_down x.status ≡ true → refusal f me x (Deliver e) ≡ Some NotUp
-down_refuses_message f me x e d = rw d
 
 -- an envelope that is not for a site is refused: as one for another site, or as one that comes to a site that is down
 turned_away : (down mine : Bool) (why : SiteFault) → mine ≡ false → why ≡ (if down then NotUp else NotMine)

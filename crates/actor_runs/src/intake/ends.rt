@@ -4,7 +4,7 @@ use crate::intake::pieces::{Heard, is_next};
 use crate::intake::worked::{
     BANK, COMMIT, COMMIT_TAG, HELLO, HELLO_TAG, KEY, PING, PING_TAG, link,
 };
-use pvp_intake::{Intake, Link, put_frame, put_hello, put_ping};
+use pvp_links::{Intake, Link, put_frame, put_hello, put_ping};
 use std::alloc::Global;
 use std::process::Abort;
 use std::test::Fail;

@@ -1,7 +1,7 @@
 //! Hellos, whole, cut and wrong.
 
 use crate::intake::worked::{BANK, HELLO, HELLO_TAG, KEY, link};
-use pvp_intake::{Intake, Link, LinkFault};
+use pvp_links::{Intake, Link, LinkFault};
 use std::alloc::Global;
 use std::process::Abort;
 use std::test::Fail;

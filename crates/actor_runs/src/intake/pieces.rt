@@ -1,7 +1,7 @@
 //! Frames and pings, whole, cut and wrong.
 
 use crate::intake::worked::{COMMIT, COMMIT_TAG, KEY, PING, PING_TAG, altered, link};
-use pvp_intake::{Intake, Link, LinkFault, Piece};
+use pvp_links::{Intake, Link, LinkFault, Piece};
 use pvp_wire::WireFault;
 use std::alloc::Global;
 use std::process::Abort;

@@ -1,7 +1,7 @@
 //! Texts that were worked by hand from the formats, and their tags by another program's HMAC: by a key of bytes 7, in the
 //! bank whose id has bytes 1.
 
-use pvp_intake::Link;
+use pvp_links::Link;
 use std::test::Fail;
 
 /// The hello of site 0.

@@ -7,7 +7,7 @@ use std::process::Abort;
 use std::test::Fail;
 
 /// How many bytes it has: its head, and three records.
-const SIZE: usize = 249;
+const SIZE: usize = 184;
 
 /// What the records say.
 const BODIES: [&[u8]; 3] = [&DELIVERED, &TIMER, &DELIVERED];
@@ -25,10 +25,10 @@ fn told_of_head(size: usize) -> Answer {
 /// How many whole records so many bytes have, and where the next one begins.
 fn whole_in(size: usize) -> (usize, usize) {
     match size {
-        0..=130 => (0, 44),
-        131..=161 => (1, 131),
-        162..=248 => (2, 162),
-        _ => (3, 249),
+        0..=99 => (0, 44),
+        100..=127 => (1, 100),
+        128..=183 => (2, 128),
+        _ => (3, 184),
     }
 }
 
@@ -73,7 +73,7 @@ fn told_of_altered(at: usize) -> Answer {
         0..=3 => Answer::Fault(JournalWhy::Magic, 0),
         4 => Answer::Fault(JournalWhy::Version, 0),
         7 => Answer::Fault(JournalWhy::Head, 0),
-        44..=51 | 131..=138 | 162..=169 => Answer::Fault(JournalWhy::Length, whole_in(at).1),
+        44..=51 | 100..=107 | 128..=135 => Answer::Fault(JournalWhy::Length, whole_in(at).1),
         _ => Answer::Fault(JournalWhy::Checksum, whole_in(at).1),
     }
 }
@@ -88,11 +88,31 @@ fn is_told_at_each_byte<R: Abort + AllocGlobal>(rt: &R, bytes: &mut [u8]) {
     }
 }
 
+/// Puts this byte at a place, where there is one.
+fn put_at(bytes: &mut [u8], at: usize, byte: u8) {
+    if let Some(place) = bytes.get_mut(at) {
+        *place = byte;
+    }
+}
+
 #[test]
 fn is_altered_at_each_byte(rt: HostRuntime) -> Result<(), Fail> {
     let mut bytes = journal_of(rt.alloc(), &BODIES)?;
     is_told_at_each_byte(&rt, bytes.as_mut_slice());
     reads_as(&rt, bytes.as_slice(), Answer::Read(3, Left::Nothing));
+    Ok(())
+}
+
+/// The version is in the checksum too.
+#[test]
+fn is_called_one_of_version_1(rt: HostRuntime) -> Result<(), Fail> {
+    let mut bytes = journal_of(rt.alloc(), &BODIES)?;
+    put_at(bytes.as_mut_slice(), 4, 1);
+    reads_as(
+        &rt,
+        bytes.as_slice(),
+        Answer::Fault(JournalWhy::Checksum, 44),
+    );
     Ok(())
 }
 
@@ -102,8 +122,8 @@ fn is_altered_at_each_byte(rt: HostRuntime) -> Result<(), Fail> {
 fn told_of_altered_end(at: usize) -> Answer {
     let (count, start) = whole_in(at);
     match at {
-        48..=51 | 135..=138 | 166..=169 => Answer::Fault(JournalWhy::Length, start),
-        123..=130 | 154..=161 | 241..=248 => Answer::Fault(JournalWhy::Checksum, start),
+        48..=51 | 104..=107 | 132..=135 => Answer::Fault(JournalWhy::Length, start),
+        92..=99 | 120..=127 | 176..=183 => Answer::Fault(JournalWhy::Checksum, start),
         _ => Answer::Read(count, Left::Torn(start)),
     }
 }

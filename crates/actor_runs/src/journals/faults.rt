@@ -1,8 +1,10 @@
 //! Bytes that are no journal, and events that have no record.
 
 use crate::journals::kinds::TIMER;
-use crate::journals::sealed::{Answer, HEAD, journal_of, reads_as, seal, sum_of, told};
-use pvp_journal::{Entry, JournalWhy, Left, WriteFault, write_record};
+use crate::journals::sealed::{
+    Answer, HEAD, OLD_HEAD, journal_behind, reads_as, seal, sum_of, told,
+};
+use pvp_journal::{JournalWhy, Left, Taken, WriteFault, write_record};
 use pvp_parties::{PartyEvent, PartyOutcome};
 use pvp_wire::{Stamp, WireFault};
 use std::alloc::Global;
@@ -15,10 +17,16 @@ const NO_HEADS: &[(&[u8], JournalWhy)] = &[
     (&[], JournalWhy::Magic),
     (b"PVPK", JournalWhy::Magic),
     (b"PVPJ", JournalWhy::Version),
-    (&[80, 86, 80, 74, 2, 0], JournalWhy::Version),
+    (&[80, 86, 80, 74, 0, 0], JournalWhy::Version),
+    (&[80, 86, 80, 74, 3, 0], JournalWhy::Version),
     (&[80, 86, 80, 74, 1, 0], JournalWhy::Head),
+    (&[80, 86, 80, 74, 2, 0], JournalWhy::Head),
     (
         &[80, 86, 80, 74, 1, 0, 200, 2, 0, 0, 0, 0],
+        JournalWhy::Head,
+    ),
+    (
+        &[80, 86, 80, 74, 2, 0, 200, 2, 0, 0, 0, 0],
         JournalWhy::Head,
     ),
 ];
@@ -31,6 +39,12 @@ const NO_ENTRIES: &[(&[u8], WireFault)] = &[
     (&[0, 0, 0, 0, 0, 0, 0, 5, 3], WireFault::Length),
     // a byte behind the outcome
     (&[0, 0, 0, 0, 0, 0, 0, 5, 3, 8, 0], WireFault::Length),
+    // a summary without a count
+    (&[0, 0, 0, 0, 0, 0, 0, 5, 3, 9], WireFault::Length),
+    // one that does not say why the event was dropped
+    (&[0, 0, 0, 0, 0, 0, 0, 5, 3, 9, 2], WireFault::Length),
+    // a byte behind it
+    (&[0, 0, 0, 0, 0, 0, 0, 5, 3, 9, 2, 0, 0], WireFault::Length),
     // a delivery without a frame
     (&[0, 0, 0, 0, 0, 0, 0, 5, 1, 0, 0, 0], WireFault::Short),
     // one of another version
@@ -80,10 +94,15 @@ fn tells_each_fault_of_a_head(rt: HostRuntime) -> Result<(), Fail> {
     Ok(())
 }
 
-/// A second record with these bytes has this fault.
-fn is_no_entry<R: Abort + AllocGlobal>(rt: &R, body: &[u8], why: WireFault) -> Result<(), Fail> {
-    let bytes = journal_of(rt.alloc(), &[&TIMER, body])?;
-    let want = Answer::Fault(JournalWhy::Record(why), 75);
+/// A second record with these bytes has this fault behind this head.
+fn is_no_entry<R: Abort + AllocGlobal>(
+    rt: &R,
+    head: &[u8],
+    body: &[u8],
+    why: WireFault,
+) -> Result<(), Fail> {
+    let bytes = journal_behind(rt.alloc(), head, &[&TIMER, body])?;
+    let want = Answer::Fault(JournalWhy::Record(why), 72);
     assert_eq!(rt; told(rt.alloc(), bytes.as_slice()), want, "{body:?}");
     Ok(())
 }
@@ -91,7 +110,8 @@ fn is_no_entry<R: Abort + AllocGlobal>(rt: &R, body: &[u8], why: WireFault) -> R
 #[test]
 fn tells_each_fault_of_a_record(rt: HostRuntime) -> Result<(), Fail> {
     for (body, why) in NO_ENTRIES {
-        is_no_entry(&rt, *body, *why)?;
+        is_no_entry(&rt, &HEAD, *body, *why)?;
+        is_no_entry(&rt, &OLD_HEAD, *body, *why)?;
     }
     Ok(())
 }
@@ -104,7 +124,7 @@ fn are_damaged<R: Abort + AllocGlobal>(rt: &R, bytes: &mut Vec<u8>) -> Result<()
     reads_as(
         rt,
         bytes.as_slice(),
-        Answer::Fault(JournalWhy::Checksum, 75),
+        Answer::Fault(JournalWhy::Checksum, 72),
     );
     Ok(())
 }
@@ -117,8 +137,8 @@ fn records_of_two_journals_are_damaged(rt: HostRuntime) -> Result<(), Fail> {
 }
 
 /// An event of a site with this stamp, which is a stray.
-fn stray(event: PartyEvent, stamp: Option<Stamp>) -> Entry {
-    Entry {
+fn stray(event: PartyEvent, stamp: Option<Stamp>) -> Taken {
+    Taken {
         event,
         stamp,
         clock: 5,
@@ -127,9 +147,9 @@ fn stray(event: PartyEvent, stamp: Option<Stamp>) -> Entry {
 }
 
 /// What writing its record returns, and how many bytes there are then.
-fn tells(alloc: Global, entry: &Entry) -> (Option<WriteFault>, usize) {
+fn tells(alloc: Global, taken: &Taken) -> (Option<WriteFault>, usize) {
     let mut bytes = Vec::new(alloc);
-    let fault = write_record(alloc, 200, 0, entry, &mut bytes).err();
+    let fault = write_record(alloc, 200, 0, taken, &mut bytes).err();
     (fault, bytes.len())
 }
 
@@ -139,8 +159,8 @@ fn is_written<R: Abort + AllocGlobal>(
     stamp: Option<Stamp>,
     want: (Option<WriteFault>, usize),
 ) {
-    let entry = stray(PartyEvent::OfSite(EventOf::Timer), stamp);
-    assert_eq!(rt; tells(rt.alloc(), &entry), want);
+    let taken = stray(PartyEvent::OfSite(EventOf::Timer), stamp);
+    assert_eq!(rt; tells(rt.alloc(), &taken), want);
 }
 
 #[test]

@@ -3,9 +3,10 @@ ghost use Rattle.std.specs.Prelude.{◌≤◌};
 
 use fixtures::setup::three_currencies;
 use pvp_book::Book;
-use pvp_peers::{Outbox, Served};
+use pvp_links::{
+    Connected, Outbox, Peer, Player, Sending, Served, Writer, Writers, connect_all, serve_streams,
+};
 use pvp_rooms::{Actor, ActorCell, Answer, Gate, Room, Seat, SiteCell, SiteSeat};
-use pvp_streams::{Connected, Driver, Peer, Sending, Writer, Writers, connect_all, serve_streams};
 use std::alloc::Global;
 use std::io::{Read, Write};
 use std::net::Net;
@@ -91,12 +92,12 @@ pub fn peer_of<'a, A: Actor, S, G>(
     }
 }
 
-/// Peers are at work, with a writer for each actor over its streams, while a driver drives.
+/// Peers are at work, with a writer for each actor over its streams, while a player plays.
 pub fn serve<A, R, W, G, P, T>(
     rt: &T,
     peers: &mut [Peer<'_, A, R, G>],
     outgoing: Vec<Sending<W>>,
-    driver: &mut P,
+    player: &mut P,
 ) -> Result<(), Fail>
 where
     A: Served + Send,
@@ -106,12 +107,12 @@ where
     R: Read + Send,
     W: Write + Send + Drop,
     G: Gate + Send,
-    P: Driver,
+    P: Player,
     T: Threads + Wait + Sync + AllocGlobal,
 {
     let mut out = Writers::new(rt.alloc());
     let mut writers = writers_of(rt.alloc(), &mut out, outgoing)?;
-    serve_streams(rt, rt.alloc(), peers, writers.as_mut_slice(), &out, driver);
+    serve_streams(rt, rt.alloc(), peers, writers.as_mut_slice(), &out, player);
     Ok(())
 }
 

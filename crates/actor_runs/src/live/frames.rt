@@ -46,33 +46,84 @@ pub const REGAINED: [u8; 48] = [
     3, 0, 0, 0, 0, 0, 0, 0, 0, 0, 0, 0, 1, 1, 0, 0, 0, 0,
 ];
 
-/// Ten frames, some of them for site 1 and some for others.
-const FRAMES: [&[u8]; 10] = [
+/// Ten frames, some of them for site 1 and some for others. The bank sends none of them.
+pub const STRANGE: [&[u8]; 10] = [
     &COMMIT, &CHANGE, &VOTE, &REQUEST, &REGAINED, &ORDER, &ANSWER, &COMMIT, &CHANGE, &COMMIT,
 ];
 
-/// How many bytes each of the ten frames has.
-const SIZES: [usize; 10] = [28, 39, 58, 42, 48, 37, 32, 28, 39, 28];
+/// How many bytes each of them has.
+pub const SIZES: [usize; 10] = [28, 39, 58, 42, 48, 37, 32, 28, 39, 28];
 
-/// The ten frames one after the other.
-pub fn ten_frames(alloc: Global) -> Result<Vec<u8>, Fail> {
+/// Ten frames for site 1 that the bank sends. REQUEST 1 of the operator, of clock 1 and index 1,
+/// asks for a Settle of 1. Those of site 0 have index 0: a COMMIT of view 0, nothing executed, at
+/// its clocks 1 to 4, and a PREPARE of view 0, place 1, nothing executed, the row of that request,
+/// at its clocks 5 to 9.
+pub const SENT: [&[u8]; 10] = [
+    &[
+        0, 0, 0, 27, 2, 1, 0, 0, 0, 0, 0, 0, 0, 0, 0, 1, 0, 0, 0, 1, 0, 201, 0, 0, 0, 1, 4, 0, 0,
+        0, 1,
+    ],
+    &[
+        0, 0, 0, 24, 2, 4, 0, 200, 0, 0, 0, 0, 0, 0, 0, 1, 0, 0, 0, 0, 0, 201, 0, 0, 0, 0, 0, 0,
+    ],
+    &[
+        0, 0, 0, 24, 2, 4, 0, 200, 0, 0, 0, 0, 0, 0, 0, 2, 0, 0, 0, 0, 0, 201, 0, 0, 0, 0, 0, 0,
+    ],
+    &[
+        0, 0, 0, 24, 2, 4, 0, 200, 0, 0, 0, 0, 0, 0, 0, 3, 0, 0, 0, 0, 0, 201, 0, 0, 0, 0, 0, 0,
+    ],
+    &[
+        0, 0, 0, 24, 2, 4, 0, 200, 0, 0, 0, 0, 0, 0, 0, 4, 0, 0, 0, 0, 0, 201, 0, 0, 0, 0, 0, 0,
+    ],
+    &[
+        0, 0, 0, 37, 2, 2, 0, 200, 0, 0, 0, 0, 0, 0, 0, 5, 0, 0, 0, 0, 0, 201, 0, 0, 0, 0, 0, 1, 0,
+        0, 0, 0, 0, 0, 0, 1, 4, 0, 0, 0, 1,
+    ],
+    &[
+        0, 0, 0, 37, 2, 2, 0, 200, 0, 0, 0, 0, 0, 0, 0, 6, 0, 0, 0, 0, 0, 201, 0, 0, 0, 0, 0, 1, 0,
+        0, 0, 0, 0, 0, 0, 1, 4, 0, 0, 0, 1,
+    ],
+    &[
+        0, 0, 0, 37, 2, 2, 0, 200, 0, 0, 0, 0, 0, 0, 0, 7, 0, 0, 0, 0, 0, 201, 0, 0, 0, 0, 0, 1, 0,
+        0, 0, 0, 0, 0, 0, 1, 4, 0, 0, 0, 1,
+    ],
+    &[
+        0, 0, 0, 37, 2, 2, 0, 200, 0, 0, 0, 0, 0, 0, 0, 8, 0, 0, 0, 0, 0, 201, 0, 0, 0, 0, 0, 1, 0,
+        0, 0, 0, 0, 0, 0, 1, 4, 0, 0, 0, 1,
+    ],
+    &[
+        0, 0, 0, 37, 2, 2, 0, 200, 0, 0, 0, 0, 0, 0, 0, 9, 0, 0, 0, 0, 0, 201, 0, 0, 0, 0, 0, 1, 0,
+        0, 0, 0, 0, 0, 0, 1, 4, 0, 0, 0, 1,
+    ],
+];
+
+/// How many bytes each of these has.
+pub const SENT_SIZES: [usize; 10] = [31, 28, 28, 28, 28, 41, 41, 41, 41, 41];
+
+/// Whether the bank sends this frame.
+pub fn is_sent(frame: &[u8]) -> bool {
+    SENT.iter().any(|sent| *sent == frame)
+}
+
+/// Frames one after the other.
+pub fn joined(alloc: Global, frames: &[&[u8]]) -> Result<Vec<u8>, Fail> {
     let mut bytes = Vec::new(alloc);
-    for frame in FRAMES {
+    for frame in frames {
         bytes.extend_from_slice(frame)?;
     }
     Ok(bytes)
 }
 
-/// How many of the ten frames are whole in so many bytes of them, and how many bytes come behind these.
-pub fn whole_frames(count: usize) -> (usize, usize) {
+/// How many frames of these sizes are whole in so many bytes, and how many bytes come behind.
+pub fn whole_frames(sizes: &[usize], count: usize) -> (usize, usize) {
     let mut left = count;
-    for (frames, size) in SIZES.iter().copied().enumerate() {
+    for (frames, size) in sizes.iter().copied().enumerate() {
         if left < size {
             return (frames, left);
         }
         left -= size;
     }
-    (SIZES.len(), left)
+    (sizes.len(), left)
 }
 
 /// The COMMIT with other bytes from a place on.

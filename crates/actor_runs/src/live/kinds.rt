@@ -3,8 +3,7 @@
 use crate::live::common::{Open, alone, connected, serve};
 use crate::live::frames::{ANSWER, CHANGE, COMMIT, ORDER, REGAINED, REQUEST, VOTE};
 use pvp_book::Book;
-use pvp_peers::Outbox;
-use pvp_streams::{Connected, Driver, Incoming, Peer, Sending};
+use pvp_links::{Connected, Incoming, Outbox, Peer, Player, Sending};
 use pvp_wire::{Stamp, Stamped, decode};
 use std::alloc::Global;
 use std::io::{self, Read, Write};
@@ -64,7 +63,7 @@ fn first_of_step(alloc: Global, frame: &[u8]) -> Result<Vec<u8>, Fail> {
     Ok(bytes)
 }
 
-/// A driver that puts into the outbox what an actor sent in one step.
+/// A player that puts into the outbox what an actor sent in one step.
 #[derive(Drop)]
 struct Hands<'a, R> {
     rt: &'a R,
@@ -73,10 +72,10 @@ struct Hands<'a, R> {
     sent: Vec<Envelope<Book>>,
 }
 
-impl<R: Wait> Driver for Hands<'_, R> {
-    ghost drives = { λ old new puts. Unit {0} };
+impl<R: Wait> Player for Hands<'_, R> {
+    ghost plays = { λ old new puts. Unit {0} };
 
-    fn drive<O: Outbox>(&mut self, out: &mut O) {
+    fn play<O: Outbox>(&mut self, out: &mut O) {
         let Stamp { actor, clock, .. } = self.stamp;
         out.put(self.rt, self.alloc, actor, clock, self.sent.as_slice());
     }

@@ -3,9 +3,8 @@ ghost use Rattle.std.specs.Prelude.{◌≡◌, []};
 
 use crate::live::common::{Open, connected, peer_of, serve, sites};
 use crate::live::frames::REQUEST;
-use pvp_peers::{Outbox, Served};
+use pvp_links::{Connected, Incoming, Outbox, Outgoing, Peer, Player, Sending, Served};
 use pvp_rooms::{Actor, ActorCell, Seat};
-use pvp_streams::{Connected, Driver, Incoming, Outgoing, Peer, Sending};
 use pvp_types::Reply;
 use pvp_wire::{Feeder, Stamped};
 use std::alloc::Global;
@@ -55,10 +54,10 @@ fn first_read<S: Read>(alloc: Global, answers: &mut S) -> io::Result<Option<Repl
     Ok(None)
 }
 
-impl<S: Read + Write + OpenStream + Drop> Driver for Asker<S> {
-    ghost drives = { λ old new puts. puts ≡ [] };
+impl<S: Read + Write + OpenStream + Drop> Player for Asker<S> {
+    ghost plays = { λ old new puts. puts ≡ [] };
 
-    fn drive<O: Outbox>(&mut self, _out: &mut O) {
+    fn play<O: Outbox>(&mut self, _out: &mut O) {
         self.answered = self.ask().unwrap_or(None);
     }
 }

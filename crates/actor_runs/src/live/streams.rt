@@ -1,41 +1,53 @@
 //! Streams that end anywhere, that fail, and whose bytes were altered, each posted at a new actor.
-use crate::live::common::{Lost, Open, sites};
-use crate::live::frames::{ANSWER, COMMIT, ORDER, Pieces, commit_with, ten_frames, whole_frames};
+//! What a site took of them is audited: its bank is one run just where it took no frame but those
+//! that the bank sent it, though some may be lost and some repeated.
+use crate::live::common::{Lost, Open};
+use crate::live::frames::{
+    ANSWER, COMMIT, ORDER, Pieces, SENT, SENT_SIZES, SIZES, STRANGE, commit_with, is_sent, joined,
+    whole_frames,
+};
+use crate::parties::bank::unheard;
+use crate::parties::common::{Place, bank_around, close, is_judged_whole, put_in_place};
 use fixtures::setup::three_currencies;
-use pvp_peers::{PeerEnd, Served, StreamEnd, serve_peer};
-use pvp_rooms::{Actor, ActorCell, ClientCell, NodeCell, Recorded, Seat};
+use pvp_links::{PeerEnd, Served, StreamEnd, serve_peer};
+use pvp_parties::Party;
+use pvp_rooms::{ActorCell, AuditTest, ClientCell, Closed, Finding, NodeCell, Recorded, Seat};
 use pvp_wire::{Stamp, WireFault, decode};
 use std::alloc::Global;
 use std::process::Abort;
 use std::sync::Wait;
 use std::test::Fail;
 
-/// A stream ends so at a new site 1, and its only seat has a receipt of each frame, with these stamps in front.
+/// A stream ends so at a new site 1, whose only seat has a receipt of each frame, with the stamps
+/// in front. What it left is audited in its bank.
 fn ends<R: Abort + Wait + AllocGlobal>(
     rt: &R,
+    bank: &mut [Closed<Party>],
     stream: Pieces<'_>,
     want: PeerEnd,
-    stamps: &[Option<Stamp>],
+    front: &Front,
 ) -> Result<(), Fail> {
-    let (cell, seats) = sites(rt.alloc(), 1, 1)?;
-    ends_whole(rt, cell, seats, stream, want, stamps)
+    let site = Place::<Party>::site(rt.alloc(), 1)?;
+    let left = left_by(rt, site, stream, want, front.stamps.as_slice())?;
+    put_in_place(bank, left);
+    is_judged_whole(rt, bank, found_of(front, want.frames))
 }
 
-/// The same at an actor, whose history has as many events.
-fn ends_whole<A: Served, R: Abort + Wait + AllocGlobal>(
+/// What an actor leaves at whose first seat a stream ends so.
+fn left_by<A: Served, R: Abort + Wait + AllocGlobal>(
     rt: &R,
-    cell: ActorCell<A>,
-    mut seats: Vec<Seat<A::Event, A::Outcome>>,
+    place: Place<A>,
     stream: Pieces<'_>,
     want: PeerEnd,
     stamps: &[Option<Stamp>],
-) -> Result<(), Fail> {
+) -> Result<Closed<A>, Fail> {
+    let (cell, mut seats) = place.apart();
     ends_at_first(rt, &cell, seats.as_mut_slice(), stream, want, stamps)?;
-    has_taken(rt, cell, seats, want.frames);
-    Ok(())
+    close(cell, seats)
 }
 
-/// The same at the first of these seats.
+/// A stream ends so at the first of these seats, which has a receipt of each frame, with these
+/// stamps in front.
 fn ends_at_first<A: Served, R: Abort + Wait + AllocGlobal>(
     rt: &R,
     cell: &ActorCell<A>,
@@ -65,19 +77,6 @@ fn have_stamps<E, O>(
     }
 }
 
-/// An actor is closed with its seats, and has taken so many events.
-fn has_taken<A: Actor>(
-    rt: &impl Abort,
-    cell: ActorCell<A>,
-    seats: Vec<Seat<A::Event, A::Outcome>>,
-    count: usize,
-) {
-    match cell.close(seats) {
-        Ok(closed) => assert_eq!(rt; closed.history.len(), count),
-        Err(_) => assert!(rt; false, "the only seat"),
-    }
-}
-
 /// How a stream ends at an actor, whose envelopes are lost.
 fn served_at<A: Served, R: Wait + AllocGlobal>(
     rt: &R,
@@ -95,39 +94,75 @@ fn first_stamp(alloc: Global, bytes: &[u8]) -> Result<(Stamp, usize), WireFault>
     Ok((frame.stamp, size))
 }
 
-/// Lists the stamps of the frames at the front of a stream, and says why there are no more.
-fn list(alloc: Global, bytes: &[u8], stamps: &mut Vec<Option<Stamp>>) -> Result<StreamEnd, Fail> {
-    let mut rest = bytes;
-    for _ in 0..bytes.len() {
-        if rest.is_empty() {
-            break;
-        }
-        match first_stamp(alloc, rest) {
-            Ok((stamp, size)) => {
-                stamps.push(Some(stamp))?;
-                rest = rest.get(size..).unwrap_or(&[]);
-            }
-            Err(WireFault::Short) => return Ok(StreamEnd::Cut(rest.len())),
-            Err(fault) => return Ok(StreamEnd::Wire(fault)),
-        }
-    }
-    Ok(StreamEnd::End)
+/// What is at the front of a stream.
+#[derive(Drop)]
+struct Front {
+    /// The stamps of its frames.
+    stamps: Vec<Option<Stamp>>,
+    /// The first of them that the bank did not send, counted from 1.
+    strange: Option<usize>,
 }
 
-/// What is at the front of a stream: the stamps of its frames, and why there are no more.
-fn read(alloc: Global, bytes: &[u8]) -> Result<(Vec<Option<Stamp>>, StreamEnd), Fail> {
-    let mut stamps = Vec::new(alloc);
-    let why = list(alloc, bytes, &mut stamps)?;
-    Ok((stamps, why))
+impl Front {
+    /// Takes one more frame.
+    fn take(&mut self, stamp: Stamp, frame: &[u8]) -> Result<(), Fail> {
+        self.stamps.push(Some(stamp))?;
+        if self.strange.is_none() && !is_sent(frame) {
+            self.strange = Some(self.stamps.len());
+        }
+        Ok(())
+    }
+
+    /// Takes the frames at the front of a stream, and says why there are no more.
+    fn take_all(&mut self, alloc: Global, bytes: &[u8]) -> Result<StreamEnd, Fail> {
+        let mut rest = bytes;
+        for _ in 0..bytes.len() {
+            if rest.is_empty() {
+                break;
+            }
+            match first_stamp(alloc, rest) {
+                Ok((stamp, size)) => {
+                    self.take(stamp, rest.get(..size).unwrap_or(&[]))?;
+                    rest = rest.get(size..).unwrap_or(&[]);
+                }
+                Err(WireFault::Short) => return Ok(StreamEnd::Cut(rest.len())),
+                Err(fault) => return Ok(StreamEnd::Wire(fault)),
+            }
+        }
+        Ok(StreamEnd::End)
+    }
+}
+
+/// What is at the front of a stream, and why there are no more frames.
+fn read(alloc: Global, bytes: &[u8]) -> Result<(Front, StreamEnd), Fail> {
+    let mut front = Front {
+        stamps: Vec::new(alloc),
+        strange: None,
+    };
+    let why = front.take_all(alloc, bytes)?;
+    Ok((front, why))
+}
+
+/// What the audit is to say of a bank whose site 1 took so many frames of a stream, and no more.
+fn found_of(front: &Front, frames: usize) -> Finding {
+    match front.strange {
+        Some(event) if event <= frames => Finding::No {
+            actor: 201,
+            event,
+            why: AuditTest::Stamped,
+        },
+        _ => Finding::Yes,
+    }
 }
 
 /// A stream ends so in pieces of each of these sizes.
 fn ends_in_pieces<R: Abort + Wait + AllocGlobal>(
     rt: &R,
+    bank: &mut [Closed<Party>],
     bytes: &[u8],
     sizes: &[usize],
     want: PeerEnd,
-    stamps: &[Option<Stamp>],
+    front: &Front,
 ) -> Result<(), Fail> {
     for size in sizes {
         let stream = Pieces {
@@ -135,19 +170,33 @@ fn ends_in_pieces<R: Abort + Wait + AllocGlobal>(
             size: *size,
             good: None,
         };
-        ends(rt, stream, want, stamps)?;
+        ends(rt, bank, stream, want, front)?;
     }
     Ok(())
+}
+
+/// The same with what is at the front of the stream.
+fn ends_at_sizes<R: Abort + Wait + AllocGlobal>(
+    rt: &R,
+    bank: &mut [Closed<Party>],
+    bytes: &[u8],
+    sizes: &[usize],
+    frames: usize,
+    why: StreamEnd,
+) -> Result<(), Fail> {
+    let (front, _) = read(rt.alloc(), bytes)?;
+    ends_in_pieces(rt, bank, bytes, sizes, PeerEnd { frames, why }, &front)
 }
 
 /// A short stream ends so in pieces of each size.
 fn ends_short<R: Abort + Wait + AllocGlobal>(
     rt: &R,
+    bank: &mut [Closed<Party>],
     bytes: &[u8],
     frames: usize,
     why: StreamEnd,
 ) -> Result<(), Fail> {
-    ends_in_pieces(rt, bytes, &[4096, 28, 5, 1], PeerEnd { frames, why }, &[])
+    ends_at_sizes(rt, bank, bytes, &[4096, 28, 5, 1], frames, why)
 }
 
 /// The COMMIT and another frame behind it.
@@ -158,22 +207,31 @@ fn commit_and(frame: &[u8; 28]) -> [u8; 56] {
     both
 }
 
-fn end_as_worked<R: Abort + Wait + AllocGlobal>(rt: &R) -> Result<(), Fail> {
+fn end_as_worked<R: Abort + Wait + AllocGlobal>(
+    rt: &R,
+    bank: &mut [Closed<Party>],
+) -> Result<(), Fail> {
     let twice = commit_and(&COMMIT);
     let version = commit_and(&commit_with(4, &[9]));
     let spent = commit_with(8, &[255; 8]);
-    ends_short(rt, twice.get(..40).unwrap_or(&[]), 1, StreamEnd::Cut(12))?;
-    ends_short(rt, &twice, 2, StreamEnd::End)?;
-    ends_short(rt, &[], 0, StreamEnd::End)?;
-    ends_short(rt, &version, 1, StreamEnd::Wire(WireFault::Version))?;
-    ends_short(rt, &spent, 0, StreamEnd::Clock)
+    let cut = twice.get(..40).unwrap_or(&[]);
+    ends_short(rt, bank, cut, 1, StreamEnd::Cut(12))?;
+    ends_short(rt, bank, &twice, 2, StreamEnd::End)?;
+    ends_short(rt, bank, &[], 0, StreamEnd::End)?;
+    ends_short(rt, bank, &version, 1, StreamEnd::Wire(WireFault::Version))?;
+    ends_short(rt, bank, &spent, 0, StreamEnd::Clock)
+}
+
+/// What the actors of a bank left whose site 1 took nothing of what it was sent.
+fn bank<R: Wait + AllocGlobal>(rt: &R) -> Result<Vec<Closed<Party>>, Fail> {
+    bank_around(rt.alloc(), unheard(rt))
 }
 
 /// The rows of short streams: part of a second frame, nothing, a frame of another version, and a clock that has no
 /// greater one.
 #[test]
 fn worked_ends(rt: HostRuntime) -> Result<(), Fail> {
-    end_as_worked(&rt)
+    end_as_worked(&rt, bank(&rt)?.as_mut_slice())
 }
 
 /// So many COMMITs.
@@ -189,69 +247,92 @@ fn commits(alloc: Global, count: usize) -> Result<Vec<u8>, Fail> {
 #[test]
 fn a_long_stream_is_read_to_its_end(rt: HostRuntime) -> Result<(), Fail> {
     let bytes = commits(rt.alloc(), 4_000)?;
-    let want = PeerEnd {
-        frames: 4_000,
-        why: StreamEnd::End,
-    };
-    ends(&rt, Pieces::whole(bytes.as_slice()), want, &[])
+    let mut bank = bank(&rt)?;
+    ends_at_sizes(
+        &rt,
+        bank.as_mut_slice(),
+        bytes.as_slice(),
+        &[4096],
+        4_000,
+        StreamEnd::End,
+    )
 }
 
-/// A stream of ten frames, and their stamps.
+/// A stream of ten frames of these sizes, and what is at its front.
 #[derive(Drop)]
-struct Ten {
+struct Ten<'a> {
+    sizes: &'a [usize],
     bytes: Vec<u8>,
-    stamps: Vec<Option<Stamp>>,
+    front: Front,
 }
 
-fn ten_read(alloc: Global) -> Result<Ten, Fail> {
-    let bytes = ten_frames(alloc)?;
-    let (stamps, _) = read(alloc, bytes.as_slice())?;
-    Ok(Ten { bytes, stamps })
+fn ten_of<'a>(alloc: Global, frames: &[&[u8]], sizes: &'a [usize]) -> Result<Ten<'a>, Fail> {
+    let bytes = joined(alloc, frames)?;
+    let (front, _) = read(alloc, bytes.as_slice())?;
+    Ok(Ten {
+        sizes,
+        bytes,
+        front,
+    })
+}
+
+/// The ten that the bank sends.
+fn ten_sent(alloc: Global) -> Result<Ten<'static>, Fail> {
+    ten_of(alloc, &SENT, &SENT_SIZES)
+}
+
+/// The ten that it does not send.
+fn ten_strange(alloc: Global) -> Result<Ten<'static>, Fail> {
+    ten_of(alloc, &STRANGE, &SIZES)
 }
 
 /// The front of ten frames ends in pieces of each size as it is cut.
 fn is_cut<R: Abort + Wait + AllocGlobal>(
     rt: &R,
-    front: &[u8],
-    stamps: &[Option<Stamp>],
+    bank: &mut [Closed<Party>],
+    ten: &Ten<'_>,
+    bytes: &[u8],
 ) -> Result<(), Fail> {
-    let (frames, left) = whole_frames(front.len());
+    let (frames, left) = whole_frames(ten.sizes, bytes.len());
     let why = if left == 0 {
         StreamEnd::End
     } else {
         StreamEnd::Cut(left)
     };
-    ends_in_pieces(rt, front, &[4096, 11, 1], PeerEnd { frames, why }, stamps)
+    let want = PeerEnd { frames, why };
+    ends_in_pieces(rt, bank, bytes, &[4096, 11, 1], want, &ten.front)
 }
 
 fn is_cut_at_each<R: Abort + Wait + AllocGlobal>(
     rt: &R,
-    bytes: &[u8],
-    stamps: &[Option<Stamp>],
+    bank: &mut [Closed<Party>],
+    ten: &Ten<'_>,
 ) -> Result<(), Fail> {
-    assert_eq!(rt; stamps.len(), 10);
+    assert_eq!(rt; ten.front.stamps.len(), 10);
+    let bytes = ten.bytes.as_slice();
     for at in 0..bytes.len() + 1 {
-        is_cut(rt, &bytes[..at], stamps)?;
+        is_cut(rt, bank, ten, &bytes[..at])?;
     }
     Ok(())
 }
 
 #[test]
 fn a_stream_is_cut_at_each_byte(rt: HostRuntime) -> Result<(), Fail> {
-    let ten = ten_read(rt.alloc())?;
-    is_cut_at_each(&rt, ten.bytes.as_slice(), ten.stamps.as_slice())
+    let mut bank = bank(&rt)?;
+    is_cut_at_each(&rt, bank.as_mut_slice(), &ten_sent(rt.alloc())?)?;
+    is_cut_at_each(&rt, bank.as_mut_slice(), &ten_strange(rt.alloc())?)
 }
 
 /// A reader of ten frames, byte by byte, fails after so many reads.
 fn fails_after<R: Abort + Wait + AllocGlobal>(
     rt: &R,
-    bytes: &[u8],
-    stamps: &[Option<Stamp>],
+    bank: &mut [Closed<Party>],
+    ten: &Ten<'_>,
     good: usize,
 ) -> Result<(), Fail> {
-    let (frames, _) = whole_frames(good);
+    let (frames, _) = whole_frames(ten.sizes, good);
     let stream = Pieces {
-        left: bytes,
+        left: ten.bytes.as_slice(),
         size: 1,
         good: Some(good),
     };
@@ -259,17 +340,18 @@ fn fails_after<R: Abort + Wait + AllocGlobal>(
         frames,
         why: StreamEnd::Read,
     };
-    ends(rt, stream, want, stamps)
+    ends(rt, bank, stream, want, &ten.front)
 }
 
 fn fails_after_each<R: Abort + Wait + AllocGlobal>(
     rt: &R,
-    bytes: &[u8],
-    stamps: &[Option<Stamp>],
+    bank: &mut [Closed<Party>],
+    ten: &Ten<'_>,
 ) -> Result<(), Fail> {
-    assert_eq!(rt; stamps.len(), 10);
+    assert_eq!(rt; ten.front.stamps.len(), 10);
+    let bytes = ten.bytes.as_slice();
     for good in 0..bytes.len() + 1 {
-        fails_after(rt, bytes, stamps, good)?;
+        fails_after(rt, bank, ten, good)?;
     }
     Ok(())
 }
@@ -277,8 +359,9 @@ fn fails_after_each<R: Abort + Wait + AllocGlobal>(
 /// The read that would find the end fails too.
 #[test]
 fn a_reader_fails_at_each_read(rt: HostRuntime) -> Result<(), Fail> {
-    let ten = ten_read(rt.alloc())?;
-    fails_after_each(&rt, ten.bytes.as_slice(), ten.stamps.as_slice())
+    let mut bank = bank(&rt)?;
+    fails_after_each(&rt, bank.as_mut_slice(), &ten_sent(rt.alloc())?)?;
+    fails_after_each(&rt, bank.as_mut_slice(), &ten_strange(rt.alloc())?)
 }
 
 /// Whether only bytes can lead to this end.
@@ -291,19 +374,24 @@ fn is_of_bytes(why: StreamEnd) -> bool {
 }
 
 /// What comes of bytes is the frames at the front of them, and an end that only bytes can lead to.
-fn come_to_their_frames<R: Abort + Wait + AllocGlobal>(rt: &R, bytes: &[u8]) -> Result<(), Fail> {
-    let (stamps, why) = read(rt.alloc(), bytes)?;
+fn come_to_their_frames<R: Abort + Wait + AllocGlobal>(
+    rt: &R,
+    bank: &mut [Closed<Party>],
+    bytes: &[u8],
+) -> Result<(), Fail> {
+    let (front, why) = read(rt.alloc(), bytes)?;
     assert!(rt; is_of_bytes(why));
     let want = PeerEnd {
-        frames: stamps.len(),
+        frames: front.stamps.len(),
         why,
     };
-    ends(rt, Pieces::whole(bytes), want, stamps.as_slice())
+    ends(rt, bank, Pieces::whole(bytes), want, &front)
 }
 
 /// The same, where the byte at a place has become each of these.
 fn come_altered<R: Abort + Wait + AllocGlobal>(
     rt: &R,
+    bank: &mut [Closed<Party>],
     bytes: &mut [u8],
     at: usize,
     others: &[u8],
@@ -312,7 +400,7 @@ fn come_altered<R: Abort + Wait + AllocGlobal>(
         if let Some(place) = bytes.get_mut(at) {
             *place = *other;
         }
-        come_to_their_frames(rt, bytes)?;
+        come_to_their_frames(rt, bank, bytes)?;
     }
     Ok(())
 }
@@ -320,17 +408,22 @@ fn come_altered<R: Abort + Wait + AllocGlobal>(
 /// The same of a copy of bytes, where the one at a place has become another in each way.
 fn are_altered_at<R: Abort + Wait + AllocGlobal>(
     rt: &R,
+    bank: &mut [Closed<Party>],
     bytes: &[u8],
     at: usize,
     byte: u8,
 ) -> Result<(), Fail> {
     let mut altered = Vec::from_slice(rt.alloc(), bytes)?;
-    come_altered(rt, altered.as_mut_slice(), at, &[0, 255, byte ^ 1])
+    come_altered(rt, bank, altered.as_mut_slice(), at, &[0, 255, byte ^ 1])
 }
 
-fn are_altered<R: Abort + Wait + AllocGlobal>(rt: &R, bytes: &[u8]) -> Result<(), Fail> {
+fn are_altered<R: Abort + Wait + AllocGlobal>(
+    rt: &R,
+    bank: &mut [Closed<Party>],
+    bytes: &[u8],
+) -> Result<(), Fail> {
     for (at, byte) in bytes.iter().copied().enumerate() {
-        are_altered_at(rt, bytes, at, byte)?;
+        are_altered_at(rt, bank, bytes, at, byte)?;
     }
     Ok(())
 }
@@ -339,8 +432,17 @@ fn are_altered<R: Abort + Wait + AllocGlobal>(rt: &R, bytes: &[u8]) -> Result<()
 /// end that only bytes can lead to.
 #[test]
 fn each_byte_is_altered(rt: HostRuntime) -> Result<(), Fail> {
-    let bytes = ten_frames(rt.alloc())?;
-    are_altered(&rt, bytes.as_slice())
+    let mut bank = bank(&rt)?;
+    are_altered(
+        &rt,
+        bank.as_mut_slice(),
+        joined(rt.alloc(), &SENT)?.as_slice(),
+    )?;
+    are_altered(
+        &rt,
+        bank.as_mut_slice(),
+        joined(rt.alloc(), &STRANGE)?.as_slice(),
+    )
 }
 
 /// An actor takes the only frame of a stream, from each of its seats.

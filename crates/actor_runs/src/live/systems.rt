@@ -3,12 +3,13 @@ ghost use Rattle.std.specs.Prelude.{◌≡◌, []};
 
 use crate::live::common::{Open, peer_of, serve, site, site_over, sites};
 use crate::live::frames::{COMMIT, Pieces, REQUEST, commit_with};
+use fixtures::setup::three_currencies;
 use pvp_book::Book;
-use pvp_peers::{Outbox, PeerEnd, Served, StreamEnd};
+use pvp_links::{Outbox, Peer, PeerEnd, Player, Sending, Served, StreamEnd};
 use pvp_rooms::{Actor, ActorCell, Answer, Gate, Input, Room, Seat, SiteCell, SiteSeat};
-use pvp_streams::{Driver, Peer, Sending};
-use pvp_types::Cmd;
+use pvp_types::{Cmd, Step};
 use pvp_wire::{Stamp, Stamped, decode};
+use pvp_world::World;
 use std::alloc::Global;
 use std::io::Read;
 use std::process::Abort;
@@ -18,16 +19,18 @@ use std::test::Fail;
 use std::thread::{self, Threads};
 use std::time::{Clock, Duration};
 use vr_site::Replica;
-use vr_types::{Boot, BootCell, Envelope, EventOf, MemCell, MsgOf, PrepareOf, Recovery, RequestOf};
+use vr_types::{
+    Boot, BootCell, Envelope, EventOf, MemCell, MsgOf, PrepareOf, Recovery, RequestOf, Status,
+};
 
-/// A driver that does nothing.
+/// A player that does nothing.
 #[derive(Drop)]
 struct Idle;
 
-impl Driver for Idle {
-    ghost drives = { λ old new puts. puts ≡ [] };
+impl Player for Idle {
+    ghost plays = { λ old new puts. puts ≡ [] };
 
-    fn drive<O: Outbox>(&mut self, _out: &mut O) {}
+    fn play<O: Outbox>(&mut self, _out: &mut O) {}
 }
 
 /// Holds the steps of sites 0 and 1 until both are in it.
@@ -364,9 +367,33 @@ fn sends_the_row<R: Abort + Wait + AllocGlobal>(
     Ok(())
 }
 
-/// What a site sends after a request and a beat has the request's row.
+/// The bank before anything was done, over new cells.
+fn opening_world(alloc: Global) -> Result<World<MemCell>, Fail> {
+    let mut cells = Vec::new(alloc);
+    cells.push(MemCell::new())?;
+    cells.push(MemCell::new())?;
+    cells.push(MemCell::new())?;
+    Ok(World::new(alloc, &three_currencies(alloc)?, cells)?)
+}
+
+/// In place of its beat site 0 falls over what its cell held at first, and is down.
+fn falls_at_its_beat(rt: &impl Abort, alloc: Global, world: &mut World<MemCell>) {
+    let opening = MemCell::new().load();
+    assert!(rt; world.fall(alloc, Step::Beat(200), opening) == Ok(()));
+    assert!(rt; world.site(0).map(|site| site.status()) == Some(Status::Down));
+}
+
+/// So it does in the opening world.
+fn falls_at_first<R: Abort + AllocGlobal>(rt: &R) -> Result<(), Fail> {
+    falls_at_its_beat(rt, rt.alloc(), &mut opening_world(rt.alloc())?);
+    Ok(())
+}
+
+/// What a site sends after a request and a beat has the request's row, and a world takes that
+/// site's fall in place of a beat.
 #[test]
 fn reply_is_real(rt: HostRuntime) -> Result<(), Fail> {
+    falls_at_first(&rt)?;
     let (cell, mut seat) = site(rt.alloc(), 0)?;
     sends_the_row(&rt, &cell, &mut seat)
 }

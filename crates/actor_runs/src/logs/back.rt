@@ -1,20 +1,19 @@
 //! Actors that come back to their journals, and sites that restart at that.
 ghost use Rattle.std.specs.Prelude.{◌≡◌, IfOk, None, Some};
 ghost use Rattle.pvp_journal.specs.Journals.{IsRead};
-ghost use Rattle.pvp_logs.specs.Resumed.{IsAgain};
+ghost use Rattle.pvp_journal.specs.Resumed.{IsAgainOf};
 
 use crate::logs::resumed::clock_of;
 use crate::logs::rooms::{Operator, operator, settle, written};
 use fixtures::setup::three_currencies;
 use headline::{ClientEvent, ClientFault};
-use pvp_audit::Audited;
-use pvp_journal::{Entry, Head, Journal, Left, read_journal, write_head};
-use pvp_logs::{
-    JournalRoom, Journaled, Log, MemLog, Replayed, RestartFault, Untold, WayBack, come_back,
-    replay, restart, way_back,
+use pvp_journal::{
+    Entry, Head, Journal, JournalRoom, Journaled, Left, Log, MemLog, Replayed, RestartFault,
+    Summary, Untold, Version, WayBack, come_back, read_journal, replay, restart, take_again,
+    way_back, write_head,
 };
 use pvp_parties::{Party, PartyEvent, PartyOutcome};
-use pvp_rooms::{Actor, CameOf};
+use pvp_rooms::{Audited, CameOf};
 use pvp_types::Cmd;
 use std::alloc::Global;
 use std::process::Abort;
@@ -33,9 +32,36 @@ enum Said {
     Other,
 }
 
-/// What an entry of the first site's journal says.
-fn told(entry: &Entry) -> Said {
-    match (&entry.event, &entry.outcome) {
+/// What an entry of a site's journal says, whose event the site takes again.
+fn told(alloc: Global, site: &mut Party, entry: &Entry) -> Result<Said, Fail> {
+    match &entry.outcome {
+        Summary::Whole(outcome) => told_whole(alloc, site, &entry.event, outcome),
+        Summary::Sent { count, dropped } => {
+            match take_again(site, alloc, &entry.event, *count, *dropped)? {
+                Some(outcome) => Ok(told_event(&entry.event, &outcome)),
+                None => Ok(Said::Other),
+            }
+        }
+    }
+}
+
+/// What an event says that came out so, where it can have.
+fn told_whole(
+    alloc: Global,
+    site: &mut Party,
+    event: &PartyEvent,
+    outcome: &PartyOutcome,
+) -> Result<Said, Fail> {
+    if site.follow(alloc, event, outcome)? {
+        Ok(told_event(event, outcome))
+    } else {
+        Ok(Said::Other)
+    }
+}
+
+/// What an event of a site says that came out so.
+fn told_event(event: &PartyEvent, outcome: &PartyOutcome) -> Said {
+    match (event, outcome) {
         (PartyEvent::OfSite(EventOf::Crash), PartyOutcome::OfSite(came)) => told_crash(came),
         (PartyEvent::OfSite(EventOf::Restart), PartyOutcome::OfSite(came)) => told_restart(came),
         _ => Said::Other,
@@ -84,6 +110,7 @@ fn asked<C, R, O>(sent: &[EnvelopeOf<C, R, O>]) -> Said {
 /// The journal of the first site, which opened over this, with no record.
 fn opened(alloc: Global, boot: Boot) -> Result<Vec<u8>, Fail> {
     let head = Head {
+        version: Version::Two,
         actor: 200,
         opening: Some(boot),
         bank: [7; 32],
@@ -103,9 +130,9 @@ fn journal_in(alloc: Global, bytes: &[u8]) -> Result<Journal, Fail>
     }
 }
 
-/// The operator or the first site, after the history of its journal.
+/// The operator or the first site, after the events of its journal.
 fn again(alloc: Global, journal: &Journal) -> Result<Replayed<Party>, Fail>
-    ensures { IfOk result (λ again. IsAgain ⟦<Party as Actor>⟧ journal.now.head.opening again
+    ensures { IfOk result (λ again. IsAgainOf journal.now.head.opening again
         journal.now.history.items) }
 {
     match journal.head.opening {
@@ -114,23 +141,23 @@ fn again(alloc: Global, journal: &Journal) -> Result<Replayed<Party>, Fail>
     }
 }
 
-/// The operator after this history.
-fn operator_again(alloc: Global, history: &[Entry]) -> Result<Replayed<Party>, Fail>
-    ensures { IfOk result (λ again. IsAgain ⟦<Party as Actor>⟧ None again history.now) }
+/// The operator after the events of these entries.
+fn operator_again(alloc: Global, entries: &[Entry]) -> Result<Replayed<Party>, Fail>
+    ensures { IfOk result (λ again. IsAgainOf None again entries.now) }
 {
     let actor = Party::client(&three_currencies(alloc)?, 0)?;
-    match replay(alloc, actor, history, &mut Untold)? {
+    match replay(alloc, actor, entries, &mut Untold)? {
         Some(again) => Ok(again),
         None => Err(Fail::new("it cannot have come so")),
     }
 }
 
-/// The first site, which opened over this, after this history.
-fn site_again(alloc: Global, boot: Boot, history: &[Entry]) -> Result<Replayed<Party>, Fail>
-    ensures { IfOk result (λ again. IsAgain ⟦<Party as Actor>⟧ (Some boot) again history.now) }
+/// The first site, which opened over this, after the events of these entries.
+fn site_again(alloc: Global, boot: Boot, entries: &[Entry]) -> Result<Replayed<Party>, Fail>
+    ensures { IfOk result (λ again. IsAgainOf (Some boot) again entries.now) }
 {
     let actor = Party::site(alloc, &three_currencies(alloc)?, 0, MemCell::of(boot))?;
-    match replay(alloc, actor, history, &mut Untold)? {
+    match replay(alloc, actor, entries, &mut Untold)? {
         Some(again) => Ok(again),
         None => Err(Fail::new("it cannot have come so")),
     }
@@ -146,7 +173,7 @@ fn log_of(alloc: Global, bytes: &[u8]) -> Result<MemLog, Fail>
 }
 
 /// The room of the actor whose journal these bytes are, over a log that holds them.
-fn back(alloc: Global, bytes: &[u8]) -> Result<Operator, Fail> {
+pub(crate) fn back(alloc: Global, bytes: &[u8]) -> Result<Operator, Fail> {
     let journal = journal_in(alloc, bytes)?;
     back_to(alloc, bytes, &journal)
 }
@@ -164,7 +191,7 @@ fn back_to(alloc: Global, bytes: &[u8], journal: &Journal) -> Result<Operator, F
 }
 
 /// The bytes of a room's log once all of it is written.
-fn bytes_of(alloc: Global, room: Operator) -> Result<Vec<u8>, Fail> {
+pub(crate) fn bytes_of(alloc: Global, room: Operator) -> Result<Vec<u8>, Fail> {
     let (room, _letters) = written(alloc, room, true)?;
     copy_of(alloc, room.log().bytes())
 }
@@ -193,19 +220,29 @@ fn comes(alloc: Global, room: Operator, cell: MemCell, way: WayBack) -> Result<V
     }
 }
 
-/// What the records of a journal say.
+/// What the records of the first site's journal say.
 fn all_told(alloc: Global, bytes: &[u8]) -> Result<Vec<Said>, Fail> {
     let journal = journal_in(alloc, bytes)?;
-    told_in(alloc, journal.history.as_slice())
+    told_since(alloc, journal.head.opening, journal.history.as_slice())
+}
+
+/// What entries of the first site say, which opened over this.
+fn told_since(alloc: Global, opening: Option<Boot>, entries: &[Entry]) -> Result<Vec<Said>, Fail> {
+    let Some(boot) = opening else {
+        return Err(Fail::new("a site"));
+    };
+    let mut site = Party::site(alloc, &three_currencies(alloc)?, 0, MemCell::of(boot))?;
+    told_in(alloc, &mut site, entries)
 }
 
 /// What entries say, whose clocks rise by one from 1.
-fn told_in(alloc: Global, history: &[Entry]) -> Result<Vec<Said>, Fail> {
+fn told_in(alloc: Global, site: &mut Party, entries: &[Entry]) -> Result<Vec<Said>, Fail> {
     let mut found = Vec::new(alloc);
     let mut before = 0;
-    for entry in history {
+    for entry in entries {
+        let said = told(alloc, site, entry)?;
         found.push(if entry.clock.checked_sub(before) == Some(1) {
-            told(entry)
+            said
         } else {
             Said::Other
         })?;
@@ -358,7 +395,7 @@ fn worked_over_another(alloc: Global) -> Result<Vec<u8>, Fail> {
 }
 
 /// How many records these bytes have, what is left behind them, and the last clock of the history that they are.
-fn told_of(alloc: Global, bytes: &[u8]) -> Result<(usize, Left, u64), Fail> {
+pub(crate) fn told_of(alloc: Global, bytes: &[u8]) -> Result<(usize, Left, u64), Fail> {
     let journal = journal_in(alloc, bytes)?;
     let clock = last_clock(alloc, &journal)?;
     Ok((journal.history.len(), journal.left, clock))

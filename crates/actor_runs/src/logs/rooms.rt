@@ -2,8 +2,10 @@
 
 use fixtures::setup::three_currencies;
 use headline::ClientEvent;
-use pvp_journal::{Head, Left, WriteFault, read_journal, write_head};
-use pvp_logs::{JournalRoom, Journaled, Log, LogFault, MemLog, Posted};
+use pvp_journal::{
+    Head, JournalRoom, Journaled, Left, Log, LogFault, MemLog, Posted, Version, WriteFault,
+    read_journal, write_head,
+};
 use pvp_parties::{Party, PartyEvent};
 use pvp_rooms::Input;
 use pvp_types::Cmd;
@@ -18,6 +20,7 @@ pub(crate) type Operator = JournalRoom<Party, MemLog>;
 /// A log with the head of the operator's journal, of which the call of this number fails, and the checksum of that.
 fn log_of_operator(alloc: Global, failing: u64) -> Result<(MemLog, u64), Fail> {
     let head = Head {
+        version: Version::Two,
         actor: 0,
         opening: None,
         bank: [7; 32],

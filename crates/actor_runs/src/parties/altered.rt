@@ -1,11 +1,10 @@
-//! What one site left, altered in one place after the run, and where the judgement of its bank finds it.
+//! What one site left, altered in one place after the run, and where the verdict of its bank finds it.
 use self::Other::{Beaten, Crashed};
 use self::Swap::{Ends, Events, Seats};
 use crate::parties::common::{Place, add, after, alone, are_judged, at_rest, close_after, let_go};
 use fixtures::{Filed, Fresh};
-use pvp_audit::{AuditTest, Verdict};
 use pvp_parties::{PartyEvent, PartyOf};
-use pvp_rooms::{Actor, Closed};
+use pvp_rooms::{Actor, AuditTest, Closed, Finding};
 use std::mem;
 use std::process::Abort;
 use std::sync::Wait;
@@ -125,7 +124,7 @@ fn site_fails<R: Abort + Wait + AllocGlobal>(
     event: usize,
     why: AuditTest,
 ) -> Result<(), Fail> {
-    let told = Verdict::No {
+    let told = Finding::No {
         actor: 200,
         event,
         why,
@@ -211,7 +210,7 @@ fn strangers<R: Wait + AllocGlobal, C: Fresh>(rt: &R) -> Result<Vec<Closed<Party
 /// What is delivered was sent by a first site that is not the one whose history is judged: that one took nothing.
 #[test]
 fn a_stamp_of_no_event_is_told(rt: HostRuntime) -> Result<(), Fail> {
-    let told = Verdict::No {
+    let told = Finding::No {
         actor: 201,
         event: 1,
         why: AuditTest::Stamped,
@@ -230,7 +229,7 @@ fn shortened<A: Actor>(left: Result<Closed<A>, Fail>) -> Result<Closed<A>, Fail>
 /// A receipt is left over, since the history has lost its last event: that is of no event.
 #[test]
 fn a_left_over_receipt_is_told(rt: HostRuntime) -> Result<(), Fail> {
-    let told = Verdict::No {
+    let told = Finding::No {
         actor: 200,
         event: 0,
         why: AuditTest::Receipts,

@@ -4,11 +4,10 @@ use crate::parties::common::{
 };
 use fixtures::{Filed, Fresh};
 use headline::ClientEvent;
-use pvp_audit::{AuditTest, Verdict};
 use pvp_book::Book;
+use pvp_links::Served;
 use pvp_parties::{Party, PartyEvent, PartyOf, PartyOutcome};
-use pvp_peers::Served;
-use pvp_rooms::{Actor, Closed};
+use pvp_rooms::{Actor, AuditTest, Closed, Finding};
 use pvp_types::{Cmd, Reply};
 use pvp_wire::Stamp;
 use rtgs_node::NodeEvent;
@@ -137,7 +136,7 @@ fn is_answered<R: Abort + Wait + AllocGlobal, C: Fresh>(
 }
 
 /// What the three leave of whom the operator was answered.
-fn answered<R: Abort + Wait + AllocGlobal, C: Fresh>(
+pub fn answered<R: Abort + Wait + AllocGlobal, C: Fresh>(
     rt: &R,
 ) -> Result<Vec<Closed<PartyOf<C>>>, Fail> {
     let mut three = open(rt.alloc())?;
@@ -147,19 +146,47 @@ fn answered<R: Abort + Wait + AllocGlobal, C: Fresh>(
 
 #[test]
 fn a_run_is_audited(rt: HostRuntime) -> Result<(), Fail> {
-    are_judged(&rt, answered::<_, MemCell>(&rt), Verdict::Yes)?;
-    are_judged(&rt, answered::<_, Filed>(&rt), Verdict::Yes)
+    are_judged(&rt, answered::<_, MemCell>(&rt), Finding::Yes)?;
+    are_judged(&rt, answered::<_, Filed>(&rt), Finding::Yes)
 }
 
 #[test]
 fn a_missing_sender_is_told(rt: HostRuntime) -> Result<(), Fail> {
-    let told = Verdict::No {
+    let told = Finding::No {
         actor: 200,
         event: 2,
         why: AuditTest::Stamped,
     };
     are_judged(&rt, without_last(answered::<_, MemCell>(&rt)), told)?;
     are_judged(&rt, without_last(answered::<_, Filed>(&rt)), told)
+}
+
+/// An actor takes four beats of a site.
+fn takes_beats<R: Wait + AllocGlobal, C: Fresh>(
+    rt: &R,
+    place: &mut Place<PartyOf<C>>,
+) -> Result<(), Fail> {
+    for _ in 0..4 {
+        place.take(rt, beat())?;
+    }
+    Ok(())
+}
+
+/// The primary beats four times, takes what the operator asks, and beats four times more.
+fn goes_unheard<R: Wait + AllocGlobal, C: Fresh>(
+    rt: &R,
+    three: &mut Three<PartyOf<C>>,
+) -> Result<(), Fail> {
+    takes_beats(rt, &mut three.primary)?;
+    let_go(three.prepare(rt, asks()))?;
+    takes_beats(rt, &mut three.primary)
+}
+
+/// What the three leave of whom the primary did so, and the backup took nothing.
+pub fn unheard<R: Wait + AllocGlobal, C: Fresh>(rt: &R) -> Result<Vec<Closed<PartyOf<C>>>, Fail> {
+    let mut three = open(rt.alloc())?;
+    let came = goes_unheard(rt, &mut three);
+    left_after(rt.alloc(), came, three)
 }
 
 /// The backup takes a beat of the primary under a stamp with a place that no envelope has.
@@ -181,7 +208,7 @@ fn mistaken<R: Wait + AllocGlobal, C: Fresh>(rt: &R) -> Result<Vec<Closed<PartyO
 /// A beat of the primary sends two envelopes, so none has the place 9 among them.
 #[test]
 fn a_stamp_that_names_nothing_is_told(rt: HostRuntime) -> Result<(), Fail> {
-    let told = Verdict::No {
+    let told = Finding::No {
         actor: 201,
         event: 1,
         why: AuditTest::Stamped,
@@ -253,7 +280,7 @@ fn stray_both<R: Abort + Wait + AllocGlobal>(rt: &R) -> Result<Vec<Closed<Party>
 
 #[test]
 fn strays_do_nothing(rt: HostRuntime) -> Result<(), Fail> {
-    are_judged(&rt, stray_both(&rt), Verdict::Yes)
+    are_judged(&rt, stray_both(&rt), Finding::Yes)
 }
 
 /// A beat of the primary comes to the operator, as a stray.
@@ -275,7 +302,7 @@ fn strayed<R: Abort + Wait + AllocGlobal>(rt: &R) -> Result<Vec<Closed<Party>>, 
 /// A beat of the primary goes to a backup: at the operator it is a stray, and no delivery that a run has.
 #[test]
 fn an_envelope_to_a_site_comes_to_no_client(rt: HostRuntime) -> Result<(), Fail> {
-    let told = Verdict::No {
+    let told = Finding::No {
         actor: 0,
         event: 1,
         why: AuditTest::Stamped,

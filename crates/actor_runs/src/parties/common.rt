@@ -1,12 +1,11 @@
 //! Actors of a bank with their seats, and what is judged of what they left.
 use fixtures::Fresh;
 use fixtures::setup::three_currencies;
-use pvp_audit::Verdict;
+use pvp_audit::{Verdict, audit, in_memory};
 use pvp_book::Book;
-use pvp_judge::{Judgement, in_memory, judge};
+use pvp_links::Served;
 use pvp_parties::{Party, PartyOf, client_cell, node_cell, site_cell};
-use pvp_peers::Served;
-use pvp_rooms::{Actor, ActorCell, Answer, Closed, Gate, Input, Room, Seat};
+use pvp_rooms::{Actor, ActorCell, Answer, Closed, Finding, Gate, Input, Room, Seat};
 use pvp_wire::Stamp;
 use std::alloc::Global;
 use std::mem;
@@ -265,7 +264,7 @@ fn put_in_places<A: Actor>(
 }
 
 /// Puts what an actor left in the place of what another of its number left.
-fn put_in_place<A: Actor>(closed: &mut [Closed<A>], mut one: Closed<A>) {
+pub fn put_in_place<A: Actor>(closed: &mut [Closed<A>], mut one: Closed<A>) {
     for place in closed {
         if place.number == one.number {
             mem::swap(place, &mut one);
@@ -309,38 +308,38 @@ pub fn at_rest<A: Actor>(place: Result<Place<A>, Fail>) -> Result<Closed<A>, Fai
     place?.close()
 }
 
-/// A judgement of the bank around what some actors left says this, whatever boot cells they have.
+/// A verdict of the bank around what some actors left says this, whatever boot cells they have.
 pub fn are_judged<R: Abort + AllocGlobal, C: Fresh>(
     rt: &R,
     some: Result<Vec<Closed<PartyOf<C>>>, Fail>,
-    verdict: Verdict,
+    verdict: Finding,
 ) -> Result<(), Fail> {
     let closed = in_memory(rt.alloc(), bank_around(rt.alloc(), some)?)?;
     is_judged_whole(rt, closed.as_slice(), verdict)
 }
 
-/// A judgement of a whole bank says this.
-fn is_judged_whole<R: Abort + AllocGlobal>(
+/// A verdict of a whole bank says this.
+pub fn is_judged_whole<R: Abort + AllocGlobal>(
     rt: &R,
     closed: &[Closed<Party>],
-    verdict: Verdict,
+    verdict: Finding,
 ) -> Result<(), Fail> {
     assert_eq!(rt; judged_whole(rt.alloc(), closed)?, verdict);
     Ok(())
 }
 
-/// What a judgement says of a whole bank.
-fn judged_whole(alloc: Global, closed: &[Closed<Party>]) -> Result<Verdict, Fail> {
-    match judge(alloc, &three_currencies(alloc)?, closed) {
-        Ok(judgement) => Ok(verdict_in(&judgement)),
+/// What a verdict says of a whole bank.
+fn judged_whole(alloc: Global, closed: &[Closed<Party>]) -> Result<Finding, Fail> {
+    match audit(alloc, &three_currencies(alloc)?, closed) {
+        Ok(verdict) => Ok(verdict_in(&verdict)),
         Err(_) => Err(Fail::new("the actors of the bank")),
     }
 }
 
-fn verdict_in(judgement: &Judgement) -> Verdict {
-    match judgement {
-        Judgement::Yes(_) => Verdict::Yes,
-        Judgement::No { actor, event, why } => Verdict::No {
+fn verdict_in(verdict: &Verdict) -> Finding {
+    match verdict {
+        Verdict::Yes(_) => Finding::Yes,
+        Verdict::No { actor, event, why } => Finding::No {
             actor: *actor,
             event: *event,
             why: *why,

@@ -1,10 +1,9 @@
 //! Whole banks, judged: a site that fell, an actor that is missing.
 use crate::parties::common::{Place, alone, are_judged, bank_around, close_after, without_last};
 use fixtures::setup::three_currencies;
-use pvp_audit::Verdict;
-use pvp_judge::{NotTheBank, judge};
+use pvp_audit::{NotTheBank, audit};
 use pvp_parties::{Party, PartyEvent, PartyOutcome};
-use pvp_rooms::{CameOf, Closed};
+use pvp_rooms::{CameOf, Closed, Finding};
 use std::alloc::Global;
 use std::process::Abort;
 use std::sync::Wait;
@@ -58,14 +57,14 @@ fn is_fall(came: &PartyOutcome, boots: u32) -> bool {
 #[test]
 fn a_fall_is_followed(rt: HostRuntime) -> Result<(), Fail> {
     for keeps_new in [false, true] {
-        are_judged(&rt, alone(rt.alloc(), fallen(&rt, keeps_new)), Verdict::Yes)?;
+        are_judged(&rt, alone(rt.alloc(), fallen(&rt, keeps_new)), Finding::Yes)?;
     }
     Ok(())
 }
 
 /// Whether these are the actors of the bank.
 fn are_the_bank(alloc: Global, closed: &[Closed<Party>]) -> Result<bool, Fail> {
-    let said = judge(alloc, &three_currencies(alloc)?, closed);
+    let said = audit(alloc, &three_currencies(alloc)?, closed);
     Ok(!matches!(&said, Err(NotTheBank)))
 }
 

@@ -5,9 +5,8 @@ use self::Came::{
 use self::Took::{Asks, Beats, Crashes, PaysIn, Restarts, SaysAgain};
 use crate::parties::common::{Place, after, alone, are_judged, close_after};
 use headline::{ClientEvent, ClientFault};
-use pvp_audit::{AuditTest, Verdict};
 use pvp_parties::{Party, PartyEvent, PartyOutcome};
-use pvp_rooms::{Actor, CameOf, Closed, Recorded, Seat};
+use pvp_rooms::{Actor, AuditTest, CameOf, Closed, Finding, Recorded, Seat};
 use pvp_types::Cmd;
 use rtgs_node::{NodeEvent, NodeFault};
 use std::alloc::Global;
@@ -170,7 +169,7 @@ fn row_is<R: Abort + Wait + AllocGlobal>(
     rt: &R,
     actor: u16,
     row: &Row,
-    told: Verdict,
+    told: Finding,
 ) -> Result<(), Fail> {
     let mut some = alone(rt.alloc(), left(rt, actor, row.0))?;
     let came = put_last(rt.alloc(), some.as_mut_slice(), row);
@@ -180,7 +179,7 @@ fn row_is<R: Abort + Wait + AllocGlobal>(
 /// The last record of each row is one that its actor can have.
 fn are_right<R: Abort + Wait + AllocGlobal>(rt: &R, actor: u16, rows: &[Row]) -> Result<(), Fail> {
     for row in rows {
-        row_is(rt, actor, row, Verdict::Yes)?;
+        row_is(rt, actor, row, Finding::Yes)?;
     }
     Ok(())
 }
@@ -188,7 +187,7 @@ fn are_right<R: Abort + Wait + AllocGlobal>(rt: &R, actor: u16, rows: &[Row]) ->
 /// The last record of each row is one that its actor cannot have.
 fn are_wrong<R: Abort + Wait + AllocGlobal>(rt: &R, actor: u16, rows: &[Row]) -> Result<(), Fail> {
     for row in rows {
-        let told = Verdict::No {
+        let told = Finding::No {
             actor,
             event: row.0.len() + 1,
             why: AuditTest::Answered,
@@ -349,7 +348,7 @@ fn retimed<R: Wait + AllocGlobal>(rt: &R) -> Result<Vec<Closed<Party>>, Fail> {
 /// its own: what then is no seat's next is reported before the clock that stands still.
 #[test]
 fn a_receipt_is_missed_before_a_clock_is(rt: HostRuntime) -> Result<(), Fail> {
-    let told = Verdict::No {
+    let told = Finding::No {
         actor: 0,
         event: 2,
         why: AuditTest::Receipts,

@@ -22,4 +22,7 @@ returns c = λ setup f early late. record {
   one_answer = c.replies.ensures.one_answer setup f early;
   right_answer = c.replies.ensures.right_answer setup f early late;
   stay = c.replies.ensures.stay setup f early late;
+  told = c.replies.ensures.told setup f early;
+  submitted = c.replies.ensures.submitted setup f early;
+  counted = c.replies.ensures.counted setup f early;
 }

@@ -135,7 +135,7 @@ fn shows_work(book: &Book, shown: BookReading) -> bool {
         Orders(ccy, count) => book.orders(ccy) == count,
         Pair(reference, state) => book.pair(reference) == state,
         Count(state, count) => book.pairs(state) == count,
-        Queued(count) => book.queue_length() == count,
+        Queued(count) => book.queued() == count,
         At(place, reference) => book.queue_at(place) == reference,
         _ => false,
     }
@@ -147,7 +147,7 @@ fn shows(book: &Book, shown: BookReading) -> bool {
         Applied(count) => book.applied() == count,
         Entries(count) => book.entries().len() == count,
         Sites(count) => book.setup().sites == count,
-        PaidIn(ccy, pay, is_in) => book.has_pay_in(ccy, pay) == is_in,
+        PaidIn(ccy, pay, is_in) => book.paid_in(ccy, pay) == is_in,
         Balance(member, ccy, balance) => book.balance(member, ccy) == balance,
         Figure(ccy, figure) => book.figure(ccy) == figure,
         Value(member, value) => book.value(member) == value,

@@ -190,7 +190,7 @@ fn tells(rt: &impl Abort, node: &Node, number: u32, notice: Cmd) -> Result<(), F
 fn shows(rt: &impl Abort, node: &Node, step: Step) {
     match step {
         Step::Has(paid, returned) => {
-            assert!(rt; (node.pay_outs().len(), node.returned_count()) == (paid, returned))
+            assert!(rt; (node.pay_outs().len(), node.returned()) == (paid, returned))
         }
         Step::PayIns(wanted) => assert!(rt; node.pay_ins() == wanted),
         Step::PayOuts(wanted) => assert!(rt; node.pay_outs() == wanted),

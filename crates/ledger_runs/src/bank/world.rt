@@ -8,7 +8,7 @@ use std::test::Fail;
 use vr_types::{MemCell, SiteFault};
 
 /// ALFA pays in 1200 at the node of USD, and the primary executes it.
-const PAID_IN: [Step; 4] = [
+pub const PAID_IN: [Step; 4] = [
     Step::PayIn {
         ccy: 1,
         member: 1,
@@ -55,7 +55,7 @@ fn stands(world: &World<MemCell>) -> (usize, usize, Option<usize>) {
 }
 
 /// A run of these steps ends so.
-fn run(
+pub fn run(
     rt: &impl Abort,
     alloc: Global,
     world: &mut World<MemCell>,
@@ -118,11 +118,16 @@ fn loses_once(rt: &impl Abort, alloc: Global, world: &mut World<MemCell>) {
 }
 
 /// Three sites over new cells.
-fn world(alloc: Global) -> Result<World<MemCell>, Fail> {
+pub fn world(alloc: Global) -> Result<World<MemCell>, Fail> {
+    world_with(alloc, MemCell::new())
+}
+
+/// Three sites, the last over this cell and the others over new ones.
+pub fn world_with(alloc: Global, last: MemCell) -> Result<World<MemCell>, Fail> {
     let mut cells = Vec::new(alloc);
     cells.push(MemCell::new())?;
     cells.push(MemCell::new())?;
-    cells.push(MemCell::new())?;
+    cells.push(last)?;
     Ok(World::new(alloc, &three_currencies(alloc)?, cells)?)
 }
 

@@ -125,15 +125,17 @@ fn vector_has_an_entry_for_each_site(rt: HostRuntime) -> Result<(), Fail> {
     run(&rt, 0, STEPS)
 }
 
+/// After its own timer a site takes what another says of the view, and that one's vote, in either
+/// order: the first sends nothing, and the second opens the view.
 #[test]
 fn two_votes_open_a_view(rt: HostRuntime) -> Result<(), Fail> {
     const OPENS: &[Sent] = &[
         (200, Said::StartView(1, 0, 0)),
         (202, Said::StartView(1, 0, 0)),
     ];
-    const STEPS: &[Step] = &[
+    const VOTE_LAST: &[Step] = &[
         Takes(Timer),
-        Takes(StartViewChange(201, 200, 1, &NONE)),
+        Leads(StartViewChange(201, 200, 1, &NONE), &[], Change(1, 0, 0)),
         Leads(
             DoViewChange(201, 200, 1, EMPTY, &NONE),
             OPENS,
@@ -142,7 +144,17 @@ fn two_votes_open_a_view(rt: HostRuntime) -> Result<(), Fail> {
         Drops(DoViewChange(201, 202, 1, EMPTY, &NONE), Why::Status),
         Drops(StartViewChange(201, 202, 1, &NONE), Why::Status),
     ];
-    run(&rt, 1, STEPS)
+    const VOTE_FIRST: &[Step] = &[
+        Takes(Timer),
+        Leads(
+            DoViewChange(201, 200, 1, EMPTY, &NONE),
+            &[],
+            Change(1, 0, 0),
+        ),
+        Leads(StartViewChange(201, 200, 1, &NONE), OPENS, Normal(1, 0, 0)),
+    ];
+    run(&rt, 1, VOTE_LAST)?;
+    run(&rt, 1, VOTE_FIRST)
 }
 
 #[test]

@@ -191,9 +191,9 @@ fn clients_are_noted_and_answered(rt: HostRuntime) -> Result<(), Fail> {
     clients.answered(5, 1, 70)?;
     has_newest(&rt, &clients, 5, 2);
     has_newest(&rt, &clients, 6, 0);
-    clients.renumber(&rows(alloc, &[1])?, 1)?;
+    clients.rebuild(&rows(alloc, &[1])?, 1)?;
     has_newest(&rt, &clients, 5, 1);
-    clients.renumber(&rows(alloc, &[1, 4])?, 1)?;
+    clients.rebuild(&rows(alloc, &[1, 4])?, 1)?;
     has_newest(&rt, &clients, 5, 4);
     has_reply(&rt, &clients, 5, Some((1, 70)));
     has_reply(&rt, &clients, 6, None);

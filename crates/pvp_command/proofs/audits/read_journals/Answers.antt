@@ -1,4 +1,4 @@
-use Rattle.std.proofs.Common.{◌≡◌, ◌+◌, ℕ, List, Bor, ap, map, take, inl, subst, sym}
+use Rattle.std.proofs.Common.{◌+◌, ℕ, List, Bor, ap, map, take, inl, subst, sym}
 use Rattle.std.proofs.lemmas.Result.{err_from_is_err_and}
 use Rattle.pvp_command.specs.Audits.{AreReadFrom}
 use Rattle.pvp_command.proofs.ReadingFiles.{AreReadFrom-next, bad_next}

@@ -11,13 +11,13 @@ returns-clause-ok g c =
     let text = c.args.rules.text.now in
     let s = c.args.rules.setup.now in
     let files = g.K.Shelf.files in
-    let judged : WasJudged s lived.closed.items lived.judgement = elim c.if-told.branch [
+    let judged : WasJudged s lived.closed.items lived.verdict = elim c.if-told.branch [
       | then-told+in_ok-lived w ↦ rw w.lived-is w.in_ok-lived.ensures.judged
       | else-told+in_ok-lived-2 w ↦ rw w.lived-is w.in_ok-lived-2.ensures.judged
     ] in
     record {
       closed = lived.closed.items;
-      judgement = lived.judgement;
+      verdict = lived.verdict;
       judged = judged;
       kept = subst (λ closed. KeptIn (folder_of c.args.told) text s closed (files c.args.shelf.now) (files c.keep.new.shelf)) c.as_slice.ensures.value
           (subst (λ before. KeptIn (folder_of c.args.told) text s c.as_slice.result.now before (files c.keep.new.shelf)) c.open_folder.ensures.same

@@ -15,10 +15,11 @@ returns-in-Audit-clause-err g c =
     let known = g.F.Files.known c.args.files.now in
     let fails = g.F.Files.fails c.args.files.now in
     let setup = c.in-Audit.setup.now in
+    let how = c.in-Audit.how in
     rw c.in-Audit.is (subst
     (λ names.
     IfErr c.audit.result
-    (λ told. IfSome (known setup) (λ rules. AuditTells known fails setup rules (map (λ name. name.now) names) c.args.out.now c.audit.new.out told)))
+    (λ told. IfSome (known setup) (λ rules. AuditTells how known fails setup rules (map (λ name. name.now) names) c.args.out.now c.audit.new.out told)))
     c.as_slice-in-Audit.ensures.value c.audit.ensures.err)
 
 -- src/program.rt

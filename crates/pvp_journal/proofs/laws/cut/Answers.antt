@@ -1,4 +1,4 @@
-use Rattle.pvp_journal.proofs.Journaled.{cut_journal}
+use Rattle.pvp_journal.proofs.Recorded.{cut_journal}
 use Rattle.pvp_journal.proofs.laws.cut.Goals as goal
 
 pub returns : goal.returns

@@ -1,4 +1,4 @@
-use Rattle.pvp_journal.proofs.Journaled.{journal-more, journal_sum-more}
+use Rattle.pvp_journal.proofs.Recorded.{journal-more, journal_sum-more}
 use Rattle.pvp_journal.proofs.laws.grows.Goals as goal
 
 pub returns-clause-text : goal.returns-clause-text

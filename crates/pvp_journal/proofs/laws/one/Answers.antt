@@ -1,4 +1,4 @@
-use Rattle.pvp_journal.proofs.Journaled.{one_text}
+use Rattle.pvp_journal.proofs.Recorded.{one_text}
 use Rattle.pvp_journal.proofs.laws.one.Goals as goal
 
 pub returns : goal.returns

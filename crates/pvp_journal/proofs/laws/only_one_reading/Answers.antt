@@ -1,4 +1,4 @@
-use Rattle.pvp_journal.proofs.Journaled.{one_reading, none_left, none_wrong}
+use Rattle.pvp_journal.proofs.Recorded.{one_reading, none_left, none_wrong}
 use Rattle.pvp_journal.proofs.laws.only_one_reading.Goals as goal
 
 pub returns-clause-reading : goal.returns-clause-reading

@@ -1,4 +1,4 @@
-use Rattle.pvp_journal.proofs.Journaled.{journal_whole}
+use Rattle.pvp_journal.proofs.Recorded.{journal_whole}
 use Rattle.pvp_journal.proofs.laws.whole_reads_back.Goals as goal
 
 pub returns : goal.returns

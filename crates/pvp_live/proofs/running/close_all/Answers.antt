@@ -3,7 +3,7 @@ use Rattle.std.specs.Global.{Vec}
 use Rattle.std.proofs.lemmas.List.{nil_from_length}
 use Rattle.std.specs.Vec.Iter.{into_iter_items}
 use Rattle.pvp_live.specs.Seating.{BankSeat}
-use Rattle.pvp_judge.specs.Cells.{LeftOver}
+use Rattle.pvp_audit.specs.Cells.{LeftOver}
 use Rattle.pvp_live.specs.Seating.{Keeps}
 use Rattle.pvp_live.proofs.Seating.{keeps_more, keeps_none}
 use Rattle.pvp_live.proofs.running.close_all.Goals as goal

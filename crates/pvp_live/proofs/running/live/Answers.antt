@@ -1,6 +1,6 @@
 use Rattle.std.proofs.Common.{inl, inr, ℕ, List, ap, ◌∙◌, subst}
 use Rattle.std.proofs.lemmas.Result.{IfErr-weaker}
-use Rattle.pvp_streams.specs.Links.{links}
+use Rattle.pvp_links.specs.Links.{links}
 use Rattle.pvp_live.specs.declared.running.LiveFault.{LiveFault}
 use Rattle.pvp_live.specs.declared.running.LiveFault.TheVariants.{Net, NoMemory, Seats}
 use Rattle.pvp_live.specs.Faults.{AreConnected, Ends, IsLate}

@@ -3,12 +3,12 @@ use Rattle.pvp_live.proofs.running.run.Goals as goal
 
 pub returns-clause-tally : goal.returns-clause-tally
 returns-clause-tally g c =
-    let driven = c.serve_streams.ensures.driven in
+    let played = c.serve_streams.ensures.played in
     record {
       before = c.args.own.items;
-      after = c.serve_streams.new.driver.seats.items;
-      puts = driven.puts;
+      after = c.serve_streams.new.player.seats.items;
+      puts = played.puts;
       new = c.requires;
-      plays = driven.driven;
+      plays = played.played;
       among = λ seat in'. c.in_ok-give_back-2.ensures.back seat (inl (c.in_ok-give_back.ensures.back seat (inr in')));
     }

@@ -1,5 +1,5 @@
 use Rattle.std.proofs.Common.{◌≡◌, ◌<◌, ◌-◌, true, false, refl, arith}
-use Rattle.pvp_audit.specs.Runs.{number_at}
+use Rattle.pvp_rooms.specs.Runs.{number_at}
 use Rattle.pvp_parties.proofs.Rising.{number_got, rises}
 use Rattle.pvp_parties.proofs.order.are_in_order.Goals as goal
 

@@ -1,5 +1,5 @@
 use Rattle.std.proofs.Common.{ℕ, ◌<◌}
-use Rattle.pvp_audit.specs.Runs.{number_at}
+use Rattle.pvp_rooms.specs.Runs.{number_at}
 use Rattle.pvp_parties.proofs.order.are_in_order.Given as goal
 
 -- the numbers so far rise

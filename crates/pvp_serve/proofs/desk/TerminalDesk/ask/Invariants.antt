@@ -1,6 +1,6 @@
 use Rattle.std.proofs.Common.{◌≡◌, ◌+◌, ◌≤◌, List, length}
 use Rattle.pvp_parties.specs.contracts.party.PartyOfActor.TheImpl.{ghosts}
-use Rattle.pvp_logs.specs.Rooms.{bank_texts}
+use Rattle.pvp_journal.specs.Rooms.{bank_texts}
 use Rattle.pvp_serve.specs.declared.desk.Asked.{Asked}
 use Rattle.pvp_serve.specs.Serving.{IsSafeIn}
 use Rattle.pvp_serve.specs.Terminals.{AreDone}

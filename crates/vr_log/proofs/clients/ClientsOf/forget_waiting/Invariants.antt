@@ -1,4 +1,4 @@
-use Rattle.std.proofs.Common.{◌≡◌, ℕ, ◌<◌, length, if◌then◌else◌}
+use Rattle.std.proofs.Common.{◌≡◌, ℕ, ◌<◌, length}
 use Rattle.vr_log.specs.Clients.{executed_in, newest_in, reply_in}
 use Rattle.vr_log.proofs.clients.ClientsOf.forget_waiting.Given as goal
 

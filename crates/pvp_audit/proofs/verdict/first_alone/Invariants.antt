@@ -1,5 +1,0 @@
-use Rattle.pvp_audit.specs.Verdicts.{HoldBelow, IsAlone}
-use Rattle.pvp_audit.proofs.verdict.first_alone.Given as goal
-
-abbrev pub invariant-loop-k : goal.invariant-loop-k
-invariant-loop-k g l = HoldBelow l.closed l.k IsAlone

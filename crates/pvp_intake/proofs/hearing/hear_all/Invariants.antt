@@ -1,5 +1,0 @@
-use Rattle.pvp_intake.specs.Hearing.{IsHearing}
-use Rattle.pvp_intake.proofs.hearing.hear_all.Given as goal
-
-abbrev pub invariant-loop : goal.invariant-loop
-invariant-loop g l = IsHearing g.H.Hearer.got l.fn.link l.fn.held (g.R.Read.remaining l.fn.reader) (g.R.Read.remaining l.reader) l.fn.hearer l.hearer l.intake

@@ -1,5 +1,0 @@
-use Rattle.pvp_intake.specs.Hearing.{IsTaking}
-use Rattle.pvp_intake.proofs.hearing.hear_whole.Given as goal
-
-abbrev pub invariant-loop : goal.invariant-loop
-invariant-loop g l = IsTaking g.H.Hearer.got l.fn.link l.fn.intake l.intake l.fn.hearer l.hearer

@@ -1,5 +1,0 @@
-pub mod Sealing
-pub mod Fronts
-pub mod Intakes
-pub mod Hearing
-pub mod Words

@@ -1,0 +1,37 @@
+use Rattle.std.proofs.Common.{refl}
+use Rattle.std.specs.Prelude.{[]}
+use Rattle.pvp_journal.specs.Rooms.{Held, past_of}
+use Rattle.pvp_journal.proofs.Batches.{begins}
+use Rattle.pvp_journal.proofs.room.JournalRoom.new.Goals as goal
+
+pub invariant_of-result : goal.invariant_of-result
+invariant_of-result g c =
+    let held : Held g.row.A-Opening.Denot g.row.A.Denot g.row.A-Outcome.Denot g.row.L.Denot =
+    record {
+      number = c.args.number;
+      opening = c.args.opening;
+      actor = c.args.actor;
+      clock = 0;
+      log = c.args.log;
+      sum = c.args.sum;
+      batch = c.new.result.items;
+      waiting = c.new-2.result.items;
+    } in (
+      past_of [] (g.L.Log.seen c.args.log) c.args.sum,
+      begins g.A.Actor g.A.Journaled.texts g.L.Log.seen held c.requires refl c.new.ensures.items c.new-2.ensures.items,
+    )
+
+pub returns-clause-keeps : goal.returns-clause-keeps
+returns-clause-keeps g c =
+    let held : Held g.row.A-Opening.Denot g.row.A.Denot g.row.A-Outcome.Denot g.row.L.Denot =
+    record {
+      number = c.args.number;
+      opening = c.args.opening;
+      actor = c.args.actor;
+      clock = 0;
+      log = c.args.log;
+      sum = c.args.sum;
+      batch = c.new.result.items;
+      waiting = c.new-2.result.items;
+    } in
+    begins g.A.Actor g.A.Journaled.texts g.L.Log.seen held c.requires refl c.new.ensures.items c.new-2.ensures.items

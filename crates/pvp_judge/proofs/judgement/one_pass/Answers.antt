@@ -1,5 +1,0 @@
-use Rattle.pvp_judge.proofs.Furthers.{in_order}
-use Rattle.pvp_judge.proofs.judgement.one_pass.Goals as goal
-
-pub pass-requires-clause-opened : goal.pass-requires-clause-opened
-pass-requires-clause-opened c = in_order c.args.setup.now c.args.closed.now c.requires.bank.sites

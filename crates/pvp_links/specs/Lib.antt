@@ -1,0 +1,12 @@
+pub mod Sent
+pub mod Puts
+pub mod Peers
+pub mod Faults
+pub mod Links
+pub mod Serving
+pub mod Writing
+pub mod Sealing
+pub mod Fronts
+pub mod Intakes
+pub mod Hearing
+pub mod Words

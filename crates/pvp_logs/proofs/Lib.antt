@@ -1,4 +1,0 @@
-pub mod Batches
-pub mod Going
-pub mod Journals
-pub mod Replaying

@@ -1,4 +1,0 @@
-pub mod Faults
-pub mod Links
-pub mod Serving
-pub mod Writing
