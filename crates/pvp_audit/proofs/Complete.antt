@@ -19,7 +19,7 @@ use Rattle.pvp_journal.specs.declared.head.Head.{Head}
 use Rattle.pvp_journal.specs.declared.journal.Journal.{Journal as Kept}
 use Rattle.pvp_audit.specs.Banked.{actor_count}
 use Rattle.pvp_audit.specs.declared.history.History.{History}
-use Rattle.pvp_audit.specs.declared.gather.EvidenceWhy.TheVariants as why
+use Rattle.pvp_journal.specs.declared.fault.EvidenceWhy.TheVariants as why
 use Rattle.pvp_audit.specs.Actors.{actor_at, AreOfTheBank}
 use Rattle.pvp_audit.specs.Cut.{AreFronts, IsFront}
 use Rattle.pvp_audit.specs.Gathered.{AreOneBank, actors_of, has_actor, has_other_bank, history_of, is_actor, wrong_with}

@@ -13,17 +13,10 @@ use Rattle.vr_types.specs.declared.cell.Boot.{Boot}
 use Rattle.pvp_journal.specs.declared.head.Head.{Head}
 use Rattle.pvp_journal.specs.declared.journal.Journal.{Journal as Kept}
 use Rattle.pvp_audit.specs.declared.history.History.{History}
-use Rattle.pvp_audit.specs.declared.gather.EvidenceWhy.{EvidenceWhy}
-use Rattle.pvp_audit.specs.declared.gather.EvidenceWhy.TheVariants as why
+use Rattle.pvp_journal.specs.declared.fault.EvidenceWhy.{EvidenceWhy}
+use Rattle.pvp_journal.specs.declared.fault.EvidenceWhy.TheVariants as why
 use Rattle.pvp_audit.specs.declared.gather.EvidenceFault.{EvidenceFault}
 use Rattle.pvp_audit.specs.declared.gather.EvidenceFault.TheVariants.{Journal, Missing, NoMemory}
-
-abbrev pub why_code : EvidenceWhy → List ℕ
-why_code why.Setup = codes "V1"
-why_code why.Life = codes "V2"
-why_code why.Stranger = codes "V3"
-why_code why.Twice = codes "V4"
-why_code why.Missing = codes "V5"
 
 -- ---- the actors of a bank
 

@@ -12,15 +12,10 @@ use Rattle.pvp_journal.specs.Spelling.{journal_text}
 use Rattle.pvp_journal.specs.Summaries.{entry_of}
 use Rattle.pvp_journal.specs.declared.head.Version.TheVariants.{Two}
 use Rattle.pvp_audit.specs.Judged.{Left}
-use Rattle.pvp_audit.specs.declared.shelf.ShelfFault.{ShelfFault}
-use Rattle.pvp_audit.specs.declared.shelf.ShelfFault.TheVariants.{Full, Failed, Present}
+use Rattle.pvp_journal.specs.declared.fault.ShelfFault.{ShelfFault}
+use Rattle.pvp_journal.specs.declared.fault.ShelfFault.TheVariants.{Full, Failed, Present}
 use Rattle.pvp_audit.specs.declared.shelf.PutFault.{PutFault}
 use Rattle.pvp_audit.specs.declared.shelf.PutFault.TheVariants.{Shelf, Unfit, NoMemory}
-
-abbrev pub shelf_code : ShelfFault → List ℕ
-shelf_code Full = codes "V6"
-shelf_code Failed = codes "V7"
-shelf_code Present = codes "V8"
 
 abbrev pub put_told : WriteFault → PutFault
 put_told write.Unfit = Unfit

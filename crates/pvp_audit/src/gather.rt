@@ -4,49 +4,15 @@ ghost use Rattle.std.specs.List.{find};
 ghost use Rattle.pvp_types.specs.Setup.{IsValid};
 ghost use Rattle.vr_types.specs.Actors.{id_of};
 ghost use Rattle.pvp_audit.specs.Actors.{AreOfTheBank};
-ghost use Rattle.pvp_audit.specs.Bank.{mark_of};
+ghost use Rattle.pvp_journal.specs.Bank.{mark_of};
 ghost use Rattle.pvp_audit.specs.Gathered.{AreOneBank, GatherFails, FindsWrong, has_actor, has_other_bank, history_of, is_actor, missing_in, missing_of, wrong_with};
 
-use crate::bank::{MARK_BYTES, mark_of};
 use crate::history::History;
-use pvp_journal::{Head, Journal};
+use pvp_journal::bank::{MARK_BYTES, mark_of};
+use pvp_journal::{EvidenceWhy, Head, Journal};
 use pvp_types::Setup;
 use std::alloc::{AllocError, AllocFailed, Global};
-use std::fmt;
 use vr_types::{ActorId, Boot, FIRST_NODE, FIRST_SITE};
-
-/// Why a journal is not one of a bank's.
-#[derive(Clone, Copy, Debug, PartialEq, Eq)]
-pub enum EvidenceWhy {
-    /// V1: it is of a bank whose setup has another text.
-    Setup,
-    /// V2: it is of another life of the bank than a journal before it.
-    Life,
-    /// V3: the bank has no such actor, or it is a site's that opened over no cell, or another's over one.
-    Stranger,
-    /// V4: a journal before it is the same actor's.
-    Twice,
-    /// V5: no journal is the actor's.
-    Missing,
-}
-
-/// Writes the code as `V1` to `V5`.
-impl fmt::Display for EvidenceWhy {
-    ghost use Rattle.std.specs.Prelude.{Some};
-    ghost use Rattle.pvp_audit.specs.Gathered.{why_code};
-
-    ghost output = { λ why. Some (why_code why) };
-
-    fn fmt<W: fmt::Write>(&self, f: &mut fmt::Formatter<W>) -> fmt::Result {
-        f.write_str(match self {
-            EvidenceWhy::Setup => "V1",
-            EvidenceWhy::Life => "V2",
-            EvidenceWhy::Stranger => "V3",
-            EvidenceWhy::Twice => "V4",
-            EvidenceWhy::Missing => "V5",
-        })
-    }
-}
 
 /// Why journals are not those of a bank.
 #[derive(Clone, Copy, Debug, PartialEq, Eq)]

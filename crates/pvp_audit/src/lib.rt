@@ -5,7 +5,6 @@
 
 mod actors;
 mod asking;
-pub mod bank;
 pub mod cells;
 mod coming;
 pub mod cut;
@@ -25,11 +24,10 @@ pub mod shelf;
 pub mod unseen;
 pub mod verdict;
 
-pub use bank::bank_of;
 pub use cells::in_memory;
 pub use fitting::actor_count;
-pub use gather::{EvidenceFault, EvidenceWhy};
+pub use gather::EvidenceFault;
 pub use history::History;
 pub use judged::{audit_gathered, audit_histories};
-pub use shelf::{DiskShelf, PutFault, Shelf, ShelfFault, put_journals};
+pub use shelf::{DiskShelf, PutFault, Shelf, put_journals};
 pub use verdict::{NotTheBank, Verdict, audit, audit_run, verdict_of};

@@ -7,45 +7,17 @@ ghost use Rattle.pvp_journal.specs.Fits.{IsHead};
 ghost use Rattle.pvp_journal.specs.declared.head.Version.TheVariants.{Two};
 ghost use Rattle.pvp_audit.specs.Shelves.{Gets, PutFails, file_of, file_name, shelf_told};
 
-use pvp_journal::{Head, Version, WriteFault, write_journal};
+use pvp_journal::{Head, ShelfFault, Version, WriteFault, write_journal};
 use pvp_parties::Party;
 use pvp_rooms::Closed;
 use pvp_trace::names::push_actor;
 use pvp_types::Setup;
 use std::alloc::{AllocError, Global};
-use std::fmt;
 use std::fs::{self, OpenOptions};
 use std::io::{self, ErrorKind, Write};
 use std::os::unix::fs::OpenOptionsExt;
 use std::rt::Files;
 use vr_types::Boot;
-
-/// Why a journal was not put where it should stand.
-#[derive(Clone, Copy, Debug, PartialEq, Eq)]
-pub enum ShelfFault {
-    /// V6: there is no room left on the device.
-    Full,
-    /// V7: the folder or the file could not be made or written.
-    Failed,
-    /// V8: there are files already where new ones are to be put, and they stay as they are.
-    Present,
-}
-
-/// Writes the code as `V6` to `V8`.
-impl fmt::Display for ShelfFault {
-    ghost use Rattle.std.specs.Prelude.{Some};
-    ghost use Rattle.pvp_audit.specs.Shelves.{shelf_code};
-
-    ghost output = { λ fault. Some (shelf_code fault) };
-
-    fn fmt<W: fmt::Write>(&self, f: &mut fmt::Formatter<W>) -> fmt::Result {
-        f.write_str(match self {
-            ShelfFault::Full => "V6",
-            ShelfFault::Failed => "V7",
-            ShelfFault::Present => "V8",
-        })
-    }
-}
 
 /// Why the journals of a bank were not put away.
 #[derive(Clone, Copy, Debug, PartialEq, Eq)]
@@ -97,7 +69,7 @@ impl From<AllocError> for PutFault {
 pub trait Shelf {
     ghost use Rattle.std.specs.Prelude.{Option, List};
     ghost use Rattle.pvp_audit.specs.Shelves.{File};
-    ghost use Rattle.pvp_audit.specs.declared.shelf.ShelfFault.{ShelfFault};
+    ghost use Rattle.pvp_journal.specs.declared.fault.ShelfFault.{ShelfFault};
 
     /// The files that were put there, in order, where they are known.
     ghost files: { Self → Option (List File) };

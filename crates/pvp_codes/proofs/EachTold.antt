@@ -12,8 +12,8 @@ use Rattle.pvp_wire.specs.declared.fault.WireFault.TheVariants as wire
 use Rattle.pvp_cell.specs.declared.fault.OpenFault.TheVariants as cell
 use Rattle.pvp_journal.specs.declared.fault.JournalWhy.TheVariants as journal
 use Rattle.pvp_journal.specs.declared.fault.WriteFault.TheVariants as write
-use Rattle.pvp_audit.specs.declared.gather.EvidenceWhy.TheVariants as evidence
-use Rattle.pvp_audit.specs.declared.shelf.ShelfFault.TheVariants as shelf
+use Rattle.pvp_journal.specs.declared.fault.EvidenceWhy.TheVariants as evidence
+use Rattle.pvp_journal.specs.declared.fault.ShelfFault.TheVariants as shelf
 use Rattle.pvp_places.specs.declared.fault.PlaceWhy.TheVariants as place
 use Rattle.pvp_places.specs.declared.fault.FolderWhy.TheVariants as folder
 use Rattle.pvp_places.specs.declared.fault.TerminalWhy.TheVariants as terminal

@@ -31,12 +31,12 @@ use Rattle.pvp_journal.specs.declared.fault.JournalWhy.TheVariants as journal
 use Rattle.pvp_journal.specs.declared.fault.WriteFault.{WriteFault}
 use Rattle.pvp_journal.specs.declared.fault.WriteFault.TheVariants as write
 use Rattle.pvp_journal.specs.Fault.{why_code as journal_code, write_code}
-use Rattle.pvp_audit.specs.declared.gather.EvidenceWhy.{EvidenceWhy}
-use Rattle.pvp_audit.specs.declared.gather.EvidenceWhy.TheVariants as evidence
-use Rattle.pvp_audit.specs.Gathered.{why_code as evidence_code}
-use Rattle.pvp_audit.specs.declared.shelf.ShelfFault.{ShelfFault}
-use Rattle.pvp_audit.specs.declared.shelf.ShelfFault.TheVariants as shelf
-use Rattle.pvp_audit.specs.Shelves.{shelf_code}
+use Rattle.pvp_journal.specs.declared.fault.EvidenceWhy.{EvidenceWhy}
+use Rattle.pvp_journal.specs.declared.fault.EvidenceWhy.TheVariants as evidence
+use Rattle.pvp_journal.specs.Fault.{evidence_code}
+use Rattle.pvp_journal.specs.declared.fault.ShelfFault.{ShelfFault}
+use Rattle.pvp_journal.specs.declared.fault.ShelfFault.TheVariants as shelf
+use Rattle.pvp_journal.specs.Fault.{shelf_code}
 use Rattle.pvp_places.specs.declared.fault.PlaceWhy.{PlaceWhy}
 use Rattle.pvp_places.specs.declared.fault.PlaceWhy.TheVariants as place
 use Rattle.pvp_places.specs.declared.fault.FolderWhy.{FolderWhy}

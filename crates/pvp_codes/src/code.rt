@@ -8,9 +8,8 @@ use crate::meanings::{
     place_meaning, reason_meaning, record_meaning, seats_meaning, shelf_meaning, terminal_meaning,
     text_meaning, wire_meaning,
 };
-use pvp_audit::{EvidenceWhy, ShelfFault};
 use pvp_cell::OpenFault;
-use pvp_journal::{JournalWhy, WriteFault};
+use pvp_journal::{EvidenceWhy, JournalWhy, ShelfFault, WriteFault};
 use pvp_places::{FolderWhy, PlaceWhy, TerminalWhy};
 use pvp_rooms::AuditTest;
 use pvp_text::{LineCode, TextFault};

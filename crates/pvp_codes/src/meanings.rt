@@ -4,9 +4,8 @@
 ghost use Rattle.std.specs.Prelude.{◌≡◌};
 ghost use Rattle.pvp_codes.specs.Meanings as spec;
 
-use pvp_audit::{EvidenceWhy, ShelfFault};
 use pvp_cell::OpenFault;
-use pvp_journal::{JournalWhy, WriteFault};
+use pvp_journal::{EvidenceWhy, JournalWhy, ShelfFault, WriteFault};
 use pvp_places::{FolderWhy, PlaceWhy, ServeFault, TerminalWhy};
 use pvp_rooms::AuditTest;
 use pvp_text::{LineCode, TextFault};

@@ -7,9 +7,8 @@ ghost use Rattle.pvp_text.specs.declared.book.RunFault.TheVariants.{NoMemory, Ou
 ghost use Rattle.pvp_codes.specs.Codes.{code_line, codes_text};
 
 use crate::code::Code;
-use pvp_audit::{EvidenceWhy, ShelfFault};
 use pvp_cell::OpenFault;
-use pvp_journal::{JournalWhy, WriteFault};
+use pvp_journal::{EvidenceWhy, JournalWhy, ShelfFault, WriteFault};
 use pvp_places::{FolderWhy, PlaceWhy, TerminalWhy};
 use pvp_rooms::AuditTest;
 use pvp_text::book::{RunFault, write_text};

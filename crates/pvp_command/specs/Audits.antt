@@ -13,7 +13,7 @@ use Rattle.pvp_audit.specs.declared.verdict.Verdict.TheVariants.{No}
 use Rattle.pvp_rooms.specs.declared.verdict.AuditTest.TheVariants.{Stamped}
 use Rattle.pvp_audit.specs.declared.history.History.{History}
 use Rattle.pvp_audit.specs.declared.gather.EvidenceFault.{EvidenceFault}
-use Rattle.pvp_audit.specs.Bank.{mark_of}
+use Rattle.pvp_journal.specs.Bank.{mark_of}
 use Rattle.pvp_audit.specs.Gathered.{AreOneBank, GatherFails}
 use Rattle.pvp_audit.specs.Cut.{IsGreatestCut}
 use Rattle.pvp_audit.specs.Unseen.{HasBlanks, unseen_in}

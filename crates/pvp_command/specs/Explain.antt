@@ -7,7 +7,7 @@ use Rattle.pvp_text.specs.declared.script.LineFault.{LineFault}
 use Rattle.pvp_text.specs.declared.setup.TextFault.{TextFault}
 use Rattle.pvp_codes.specs.Explained.{setup_explained, line_explained}
 use Rattle.pvp_journal.specs.declared.fault.WriteFault.TheVariants.{Unfit}
-use Rattle.pvp_audit.specs.declared.gather.EvidenceWhy.TheVariants.{Missing}
+use Rattle.pvp_journal.specs.declared.fault.EvidenceWhy.TheVariants.{Missing}
 use Rattle.pvp_codes.specs.declared.code.Code.{Code}
 use Rattle.pvp_codes.specs.declared.code.Code.TheVariants as code
 use Rattle.pvp_codes.specs.Codes.{meaning}

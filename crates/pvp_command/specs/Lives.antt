@@ -11,7 +11,7 @@ use Rattle.pvp_audit.specs.declared.verdict.Verdict.{Verdict}
 use Rattle.pvp_audit.specs.declared.verdict.Verdict.TheVariants.{Yes, No}
 use Rattle.pvp_live.specs.Told.{WasJudged, verdict_text}
 use Rattle.pvp_live.specs.Scripts.{script_text}
-use Rattle.pvp_audit.specs.Bank.{bank_of}
+use Rattle.pvp_journal.specs.Bank.{bank_of}
 use Rattle.pvp_audit.specs.Shelves.{File, Gets, file_of}
 use Rattle.pvp_audit.specs.declared.shelf.PutFault.{PutFault}
 use Rattle.pvp_command.specs.declared.lives.Told.{Told}

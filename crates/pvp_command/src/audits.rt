@@ -2,7 +2,7 @@
 ghost use Rattle.std.specs.Prelude.{◌≡◌, ◌++◌, OnOk, IfOk, IfErr, IfSome, map, length, string_bytes};
 ghost use Rattle.pvp_types.specs.Setup.{IsValid};
 ghost use Rattle.pvp_audit.specs.Actors.{AreOfTheBank};
-ghost use Rattle.pvp_audit.specs.Bank.{mark_of};
+ghost use Rattle.pvp_journal.specs.Bank.{mark_of};
 ghost use Rattle.pvp_audit.specs.Cut.{IsGreatestCut};
 ghost use Rattle.pvp_command.specs.Audits.{AuditWrites, AuditTells, AuditsBank, BankStops, AreReadFrom, ReadsFile, IsBadFile, IsBadAmong, IsJudgedSo, clock_text, cut_text, event_text, for_text, lack_text, none_text, sent_text, unseen_for, unseen_text, unsent_in, unsent_text};
 ghost use Rattle.pvp_command.specs.declared.fault.Fault.TheVariants.{NoMemory};

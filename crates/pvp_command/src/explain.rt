@@ -9,9 +9,8 @@ ghost use Rattle.pvp_command.specs.declared.files.Source.TheVariants.{Setup as O
 
 use crate::fault::Fault;
 use crate::files::{Files, Source, Unread, read_source};
-use pvp_audit::EvidenceWhy;
 use pvp_codes::{Code, explain_line, explain_setup};
-use pvp_journal::WriteFault;
+use pvp_journal::{EvidenceWhy, WriteFault};
 use pvp_text::{Kind, LineFault, TextFault, read_setup};
 use std::alloc::Global;
 

@@ -1,8 +1,8 @@
 //! What ends a run of the program, as it is reported on standard error.
 
 use crate::files::{FileFault, Source, Unread};
-use pvp_audit::{EvidenceFault, EvidenceWhy, PutFault, ShelfFault};
-use pvp_journal::{JournalFault, JournalWhy};
+use pvp_audit::{EvidenceFault, PutFault};
+use pvp_journal::{EvidenceWhy, JournalFault, JournalWhy, ShelfFault};
 use pvp_live::LiveFault;
 use pvp_text::{LineCode, RunFault, TextFault};
 use std::alloc::{AllocError, AllocFailed};

@@ -6,7 +6,8 @@ ghost use Rattle.pvp_command.specs.Lives.{LiveWrites, LiveTells, LivesScript, Te
 
 use crate::fault::Fault;
 use crate::files::{Files, Source, read_source};
-use pvp_audit::{PutFault, Shelf, ShelfFault, Verdict, bank_of, put_journals};
+use pvp_audit::{PutFault, Shelf, Verdict, put_journals};
+use pvp_journal::{ShelfFault, bank_of};
 use pvp_live::{live as run_live, print_script, print_verdict};
 use pvp_parties::Party;
 use pvp_play::cells::new_cells;

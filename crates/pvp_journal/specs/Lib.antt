@@ -1,3 +1,4 @@
+pub mod Bank
 pub mod Fault
 pub mod Spelling
 pub mod Summaries

@@ -40,6 +40,32 @@ pub enum WriteFault {
     NoMemory,
 }
 
+/// Why a journal is not one of a bank's.
+#[derive(Clone, Copy, Debug, PartialEq, Eq)]
+pub enum EvidenceWhy {
+    /// V1: it is of a bank whose setup has another text.
+    Setup,
+    /// V2: it is of another life of the bank than a journal before it.
+    Life,
+    /// V3: the bank has no such actor, or it is a site's that opened over no cell, or another's over one.
+    Stranger,
+    /// V4: a journal before it is the same actor's.
+    Twice,
+    /// V5: no journal is the actor's.
+    Missing,
+}
+
+/// Why a journal was not put where it should stand.
+#[derive(Clone, Copy, Debug, PartialEq, Eq)]
+pub enum ShelfFault {
+    /// V6: there is no room left on the device.
+    Full,
+    /// V7: the folder or the file could not be made or written.
+    Failed,
+    /// V8: there are files already where new ones are to be put, and they stay as they are.
+    Present,
+}
+
 /// Writes the code as `M1` to `M7`.
 impl fmt::Display for JournalWhy {
     ghost use Rattle.std.specs.Prelude.{Some};
@@ -72,6 +98,40 @@ impl fmt::Display for WriteFault {
             WriteFault::Unfit => f.write_str("M8"),
             WriteFault::NoMemory => f.write_str("M9"),
         }
+    }
+}
+
+/// Writes the code as `V1` to `V5`.
+impl fmt::Display for EvidenceWhy {
+    ghost use Rattle.std.specs.Prelude.{Some};
+    ghost use Rattle.pvp_journal.specs.Fault.{evidence_code};
+
+    ghost output = { λ why. Some (evidence_code why) };
+
+    fn fmt<W: fmt::Write>(&self, f: &mut fmt::Formatter<W>) -> fmt::Result {
+        f.write_str(match self {
+            EvidenceWhy::Setup => "V1",
+            EvidenceWhy::Life => "V2",
+            EvidenceWhy::Stranger => "V3",
+            EvidenceWhy::Twice => "V4",
+            EvidenceWhy::Missing => "V5",
+        })
+    }
+}
+
+/// Writes the code as `V6` to `V8`.
+impl fmt::Display for ShelfFault {
+    ghost use Rattle.std.specs.Prelude.{Some};
+    ghost use Rattle.pvp_journal.specs.Fault.{shelf_code};
+
+    ghost output = { λ fault. Some (shelf_code fault) };
+
+    fn fmt<W: fmt::Write>(&self, f: &mut fmt::Formatter<W>) -> fmt::Result {
+        f.write_str(match self {
+            ShelfFault::Full => "V6",
+            ShelfFault::Failed => "V7",
+            ShelfFault::Present => "V8",
+        })
     }
 }
 

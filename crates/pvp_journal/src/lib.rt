@@ -3,6 +3,7 @@
 //! a journal, on a log that only grows: a record is written there before anything that its event sent leaves the actor.
 #![tactic(auto)]
 
+pub mod bank;
 mod events;
 pub mod fault;
 pub mod file;
@@ -22,7 +23,8 @@ mod sums;
 pub mod ways;
 pub mod writing;
 
-pub use fault::{JournalFault, JournalWhy, WriteFault};
+pub use bank::bank_of;
+pub use fault::{EvidenceWhy, JournalFault, JournalWhy, ShelfFault, WriteFault};
 pub use file::FileLog;
 pub use head::{Head, Version};
 pub use journal::{Entry, Journal, Left, read_journal};

@@ -2,8 +2,8 @@
 use Rattle.std.specs.Prelude.{ℕ, List, ◌++◌, codes, decimal}
 use Rattle.pvp_text.specs.SetupText.{fault_text}
 use Rattle.pvp_journal.specs.Fault.{why_code as journal_code}
-use Rattle.pvp_audit.specs.Gathered.{why_code as evidence_code}
-use Rattle.pvp_audit.specs.Shelves.{shelf_code}
+use Rattle.pvp_journal.specs.Fault.{evidence_code}
+use Rattle.pvp_journal.specs.Fault.{shelf_code}
 use Rattle.pvp_cell.specs.Fault.{fault_code_text as cell_code}
 use Rattle.pvp_places.specs.declared.serving.ServeFault.{ServeFault}
 use Rattle.pvp_places.specs.declared.serving.ServeFault.TheVariants as serve

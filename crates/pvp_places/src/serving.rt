@@ -1,9 +1,8 @@
 //! Why a process of the bank does not serve, or no longer.
 
 use crate::fault::{FolderWhy, PlaceFault, PlaceWhy};
-use pvp_audit::{EvidenceWhy, ShelfFault};
 use pvp_cell::{OpenFault, StoreFault};
-use pvp_journal::{JournalFault, JournalWhy, WriteFault};
+use pvp_journal::{EvidenceWhy, JournalFault, JournalWhy, ShelfFault, WriteFault};
 use pvp_text::TextFault;
 use std::alloc::{AllocError, AllocFailed};
 use std::fmt;

@@ -9,8 +9,8 @@ use Rattle.pvp_journal.specs.declared.fault.JournalFault.{JournalFault}
 use Rattle.pvp_journal.specs.declared.fault.JournalWhy.{JournalWhy}
 use Rattle.pvp_journal.specs.declared.fault.JournalWhy.TheVariants as why
 use Rattle.pvp_journal.specs.Journals.{IsRead, ReadsJournal}
-use Rattle.pvp_audit.specs.declared.gather.EvidenceWhy.{EvidenceWhy}
-use Rattle.pvp_audit.specs.declared.gather.EvidenceWhy.TheVariants as evidence
+use Rattle.pvp_journal.specs.declared.fault.EvidenceWhy.{EvidenceWhy}
+use Rattle.pvp_journal.specs.declared.fault.EvidenceWhy.TheVariants as evidence
 use Rattle.pvp_journal.specs.declared.ways.RestartFault.{RestartFault}
 use Rattle.pvp_journal.specs.declared.ways.RestartFault.TheVariants.{Misfit, ClockSpent, Unwritten}
 use Rattle.vr_types.specs.declared.cell.Boot.{Boot}

@@ -13,7 +13,7 @@ use Rattle.vr_site.specs.Replica.{site_shown}
 use Rattle.pvp_book.specs.Ledger.{Ledger, opening}
 use Rattle.headline.specs.Machine.{book}
 use Rattle.pvp_text.specs.ScriptWords.{is_empty}
-use Rattle.pvp_audit.specs.declared.shelf.ShelfFault.TheVariants as shelf
+use Rattle.pvp_journal.specs.declared.fault.ShelfFault.TheVariants as shelf
 use Rattle.pvp_places.specs.declared.serving.ServeFault.{ServeFault}
 use Rattle.pvp_places.specs.declared.serving.ServeFault.TheVariants as serve
 use Rattle.pvp_rooms.specs.declared.actor.Actor.{Ghosts}

@@ -30,12 +30,11 @@ use crate::host::Host;
 use crate::lanes::Lanes;
 use crate::reading::Reading;
 use crate::serving::Serving;
-use pvp_audit::{EvidenceWhy, ShelfFault};
 use pvp_cell::{DirStore, FileCell, OpenFault, create_cell, read_cell, settle_cell};
 use pvp_journal::{
-    Entry, FileLog, Head, Journal, JournalFault, JournalRoom, JournalWhy, Journaled, Left, Log,
-    LogFault, Pace, Replayed, RestartFault, Version, WayBack, come_back, read_journal, replay,
-    restart, way_back, write_head,
+    Entry, EvidenceWhy, FileLog, Head, Journal, JournalFault, JournalRoom, JournalWhy, Journaled,
+    Left, Log, LogFault, Pace, Replayed, RestartFault, ShelfFault, Version, WayBack, come_back,
+    read_journal, replay, restart, way_back, write_head,
 };
 use pvp_parties::{Party, PartyOf};
 use pvp_places::{FolderWhy, Mark, ServeFault};

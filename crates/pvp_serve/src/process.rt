@@ -23,7 +23,7 @@ use crate::serving::Serving;
 use crate::site::SiteDesk;
 use crate::ticking::{read_lines, tick};
 use crossbeam_channel::{Receiver, Sender, bounded};
-use pvp_audit::bank_of;
+use pvp_journal::bank_of;
 use pvp_links::Link;
 use pvp_places::{
     Address, Beginning, FolderWhy, Keys, Order, Paper, Peers, ServeFault, Who, actor_asked,

@@ -2,7 +2,7 @@ use Rattle.std.proofs.Common.{ℕ, List, sym, ap, subst, ◌∙◌, rules, IsPer
 use Rattle.std.proofs.lemmas.List.Sorted.{IsNonDecreasingBy-from_sort_by_key}
 use Rattle.pvp_audit.specs.declared.history.History.{History}
 use Rattle.pvp_journal.specs.declared.journal.Journal.{Journal as Kept}
-use Rattle.pvp_audit.specs.Bank.{mark_of}
+use Rattle.pvp_journal.specs.Bank.{mark_of}
 use Rattle.pvp_audit.specs.Gathered.{AreRight, missing_in}
 use Rattle.pvp_audit.proofs.Complete.{complete}
 use Rattle.pvp_audit.proofs.gather.gather.Goals as goal

@@ -6,7 +6,7 @@ use Rattle.pvp_journal.specs.declared.head.Head.{Head}
 use Rattle.pvp_journal.specs.Fits.{AreJournalable, IsHead, IsJournalable}
 use Rattle.pvp_journal.specs.Summaries.{Taken, entry_of}
 use Rattle.pvp_audit.specs.Judged.{Left}
-use Rattle.pvp_audit.specs.declared.shelf.ShelfFault.{ShelfFault}
+use Rattle.pvp_journal.specs.declared.fault.ShelfFault.{ShelfFault}
 use Rattle.pvp_audit.specs.Shelves.{PutFails, put_told}
 use Rattle.pvp_audit.proofs.shelf.put_journal.Goals as goal
 

@@ -2,7 +2,7 @@ use Rattle.std.proofs.Common.{rules, ◌≡◌, ℕ, List, Ok, Bor, map, inr, su
 use Rattle.std.proofs.lemmas.Option.{IfSome_then}
 use Rattle.std.proofs.lemmas.Result.{err_from_is_err_and}
 use Rattle.pvp_text.specs.SetupText.{setup_text}
-use Rattle.pvp_audit.specs.Bank.{mark_of}
+use Rattle.pvp_journal.specs.Bank.{mark_of}
 use Rattle.pvp_command.specs.Audits.{BankStops}
 use Rattle.pvp_command.proofs.audits.audit.Goals as goal
 

@@ -1,7 +1,7 @@
 use Rattle.std.proofs.Common.{◌≡◌, ℕ, List, [], ◌∷◌, ◌++◌, length, take, drop, ap, ◌∙◌, arith, refl}
 use Rattle.std.proofs.lemmas.List.{append-nil, drop_all, drop_at, take_at}
-use Rattle.pvp_audit.specs.Bank.{mark_of}
-use Rattle.pvp_audit.proofs.bank.bank_of.Goals as goal
+use Rattle.pvp_journal.specs.Bank.{mark_of}
+use Rattle.pvp_journal.proofs.bank.bank_of.Goals as goal
 
 -- what is written over the second half
 halves : (front zeros back : List ℕ) → length front ≡ 16 → length zeros ≡ 16

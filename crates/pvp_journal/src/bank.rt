@@ -1,6 +1,6 @@
 //! Which bank a journal is of.
 ghost use Rattle.std.specs.Prelude.{◌≡◌};
-ghost use Rattle.pvp_audit.specs.Bank.{bank_of, mark_of};
+ghost use Rattle.pvp_journal.specs.Bank.{bank_of, mark_of};
 
 use sha2::{Digest, Sha256};
 
@@ -20,7 +20,7 @@ pub fn bank_of(setup: &[u8], life: [u8; 16]) -> [u8; 32]
 
 /// What distinguishes the text of a setup from others.
 #[tactic(auto, unfolding(crate::specs::Bank::mark_of))]
-pub(crate) fn mark_of(setup: &[u8]) -> [u8; 16]
+pub fn mark_of(setup: &[u8]) -> [u8; 16]
     ensures { result ≡ mark_of setup.now }
 {
     let digest = Sha256::digest(setup);
