@@ -1,3 +1,4 @@
+pub mod Halves
 pub mod Checksums
 pub mod Again
 pub mod Loop

@@ -16,7 +16,7 @@ use Rattle.pvp_wire.proofs.Numbers.{length-number}
 use Rattle.pvp_wire.proofs.Parts.{both, off}
 use Rattle.pvp_wire.proofs.Streams.{length-spelling}
 use Rattle.pvp_links.specs.declared.link.Link.{Link}
-use Rattle.pvp_links.specs.Sealing.{tag, sealed_text, AreEnds, IsSized, hello_text, hello_length, ping_text}
+use Rattle.pvp_links.specs.Sealing.{tag, sealed_from, sealed_text, AreEnds, IsSized, hello_text, hello_length, ping_text}
 use Rattle.pvp_links.specs.Fronts.{Said, Lives, Says, sealed_at, caller_at, hello_at, is_length, size_at, said_in, front_where, front}
 use Rattle.pvp_links.proofs.Sealed.{sealed-length, same_sealed, there}
 
@@ -37,28 +37,28 @@ record IsText (text : List ℕ) : Type 0 where
   listed : is_length (big_number 4 text) ≡ true
   counts : length text ≡ 4 + big_number 4 text
 
-behind : (link : Link) (text rest : List ℕ) → 4 ≤ length text → big_number 4 (sealed_text link text ++ rest) ≡ big_number 4 text
-behind link text rest long = ap (big_number 4) (append_assoc text (tag link text) rest) ∙ big_from-append 4 text (tag link text ++ rest) long
+behind : (link : Link) (text rest : List ℕ) → 4 ≤ length text → big_number 4 (sealed_from link.peer link text ++ rest) ≡ big_number 4 text
+behind link text rest long = ap (big_number 4) (append_assoc text (tag link.peer link text) rest) ∙ big_from-append 4 text (tag link.peer link text ++ rest) long
 
-size-there : (link : Link) (text rest : List ℕ) → IsText text → size_at link (sealed_text link text ++ rest) ≡ Ok (Some (length text))
+size-there : (link : Link) (text rest : List ℕ) → IsText text → size_at link (sealed_from link.peer link text ++ rest) ≡ Ok (Some (length text))
 unfolding size_at
 size-there link text rest h =
-    let bytes = sealed_text link text ++ rest in
+    let bytes = sealed_from link.peer link text ++ rest in
     let number-is = behind link text rest h.long in
-    let long : nat_lt (length bytes) 4 ≡ false = le-ltb _ _ (omega (arith, length-append (sealed_text link text) rest, sealed-length link text, h.long)) in
+    let long : nat_lt (length bytes) 4 ≡ false = le-ltb _ _ (omega (arith, length-append (sealed_from link.peer link text) rest, sealed-length link.peer link text, h.long)) in
     let listed : is_length (big_number 4 bytes) ≡ true = ap is_length number-is ∙ h.listed in
     let size : 4 + big_number 4 bytes ≡ length text = omega (arith, number-is, h.counts) in
     let found : sealed_at link (4 + big_number 4 bytes) bytes ≡ Ok true = ap (λ (n : ℕ). sealed_at link n bytes) size ∙ there link text rest in
     rw (long, listed, found, size) refl
 
 front-there : (link : Link) (text rest : List ℕ) (said : Said) → IsText text → said_in false link text ≡ Ok said
-    → front link (sealed_text link text ++ rest) ≡ Ok (Some (said, length (sealed_text link text)))
+    → front link (sealed_from link.peer link text ++ rest) ≡ Ok (Some (said, length (sealed_from link.peer link text)))
 unfolding front_where
 front-there link text rest said h e =
-    let bytes = sealed_text link text ++ rest in
+    let bytes = sealed_from link.peer link text ++ rest in
     let front : take (length text) bytes ≡ text =
-    ap (take (length text)) (append_assoc text (tag link text) rest) ∙ take_at text (tag link text ++ rest) (length text) refl in
-    rw (size-there link text rest h, front, e, sealed-length link text) refl
+    ap (take (length text)) (append_assoc text (tag link.peer link text) rest) ∙ take_at text (tag link.peer link text ++ rest) (length text) refl in
+    rw (size-there link text rest h, front, e, sealed-length link.peer link text) refl
 
 either : (a b : Bool) → b ≡ true → (a || b) ≡ true
 either true b e = refl
@@ -106,50 +106,53 @@ ping-again-there near far rest ends =
 
 -- ---- hellos
 
-pub length-hello : (actor : ℕ) (bank : List ℕ) → length bank ≡ 32 → length (hello_text actor bank) ≡ 4 + hello_length
-length-hello actor bank e =
+pub length-hello : (actor : ℕ) (bank nonce : List ℕ) → length bank ≡ 32 → length nonce ≡ 16 → length (hello_text actor bank nonce) ≡ 4 + hello_length
+length-hello actor bank nonce e f =
     let a = number 4 hello_length in
     let b = number 2 actor in
-    omega (arith, length-append (a ++ b) bank, length-append a b, length-number 4 hello_length, length-number 2 actor)
+    omega (arith, length-append ((a ++ b) ++ bank) nonce, length-append (a ++ b) bank, length-append a b, length-number 4 hello_length, length-number 2 actor)
 
-caller-there : (actor : ℕ) (bank rest : List ℕ) → actor < 65536 → length bank ≡ 32 → caller_at bank (hello_text actor bank ++ rest) ≡ Ok (Some actor)
+caller-there : (actor : ℕ) (bank nonce rest : List ℕ) → actor < 65536 → length bank ≡ 32 → length nonce ≡ 16
+    → caller_at bank (hello_text actor bank nonce ++ rest) ≡ Ok (Some actor)
 unfolding caller_at
-caller-there actor bank rest lt e =
+caller-there actor bank nonce rest lt e f =
     let a = number 4 hello_length in
     let b = number 2 actor in
-    let bytes = hello_text actor bank ++ rest in
+    let more = nonce ++ rest in
+    let bytes = hello_text actor bank nonce ++ rest in
     let la = length-number 4 hello_length in
     let lb = length-number 2 actor in
-    let total : length bytes ≡ 38 + length rest = omega (arith, length-append (hello_text actor bank) rest, length-hello actor bank e) in
-    let shape : bytes ≡ (a ++ b) ++ (bank ++ rest) = append_assoc (a ++ b) bank rest in
-    let parts : bytes ≡ a ++ (b ++ (bank ++ rest)) = shape ∙ append_assoc a b (bank ++ rest) in
+    let total : length bytes ≡ 54 + length rest = omega (arith, length-append (hello_text actor bank nonce) rest, length-hello actor bank nonce e f) in
+    let shape : bytes ≡ (a ++ b) ++ (bank ++ more) = append_assoc ((a ++ b) ++ bank) nonce rest ∙ append_assoc (a ++ b) bank more in
+    let parts : bytes ≡ a ++ (b ++ (bank ++ more)) = shape ∙ append_assoc a b (bank ++ more) in
     let t1 : nat_lt (length bytes) 4 ≡ false = le-ltb _ _ (omega (arith, total)) in
     let t2 : (big_number 4 bytes == hello_length) ≡ true =
-    eq-eqb _ _ (ap (big_number 4) parts ∙ number-first 4 hello_length (b ++ (bank ++ rest)) (omega arith)) in
+    eq-eqb _ _ (ap (big_number 4) parts ∙ number-first 4 hello_length (b ++ (bank ++ more)) (omega arith)) in
     let t3 : nat_lt (length bytes) (4 + hello_length) ≡ false = le-ltb _ _ (omega (arith, total)) in
     let id : take 32 (drop 6 bytes) ≡ bank =
-    ap (λ (x : List ℕ). take 32 (drop 6 x)) shape ∙ ap (take 32) (drop_at (a ++ b) (bank ++ rest) 6 (omega (arith, length-append a b, la, lb)))
-    ∙ take_at bank rest 32 e in
+    ap (λ (x : List ℕ). take 32 (drop 6 x)) shape ∙ ap (take 32) (drop_at (a ++ b) (bank ++ more) 6 (omega (arith, length-append a b, la, lb)))
+    ∙ take_at bank more 32 e in
     let t4 : bytes_eq (take 32 (drop 6 bytes)) bank ≡ true = (bytes_eq-Decides _ _).1 id in
     let who : big_number 2 (drop 4 bytes) ≡ actor =
-    ap (λ (x : List ℕ). big_number 2 (drop 4 x)) parts ∙ ap (big_number 2) (drop_at a (b ++ (bank ++ rest)) 4 la)
-    ∙ number-first 2 actor (bank ++ rest) (omega arith) in
+    ap (λ (x : List ℕ). big_number 2 (drop 4 x)) parts ∙ ap (big_number 2) (drop_at a (b ++ (bank ++ more)) 4 la)
+    ∙ number-first 2 actor (bank ++ more) (omega arith) in
     rw (t1, t2, t3, t4, who) refl
 
-pub caller-again-there : (near far : Link) (rest : List ℕ) → AreEnds near far → IsSized near
-    → caller_at far.bank (sealed_text near (hello_text near.me near.bank) ++ rest) ≡ Ok (Some near.me)
-caller-again-there near far rest ends sized =
-    let text = hello_text near.me near.bank in
+pub caller-again-there : (near far : Link) (nonce rest : List ℕ) → AreEnds near far → IsSized near → length nonce ≡ 16
+    → caller_at far.bank (sealed_text near (hello_text near.me near.bank nonce) ++ rest) ≡ Ok (Some near.me)
+caller-again-there near far nonce rest ends sized drawn =
+    let text = hello_text near.me near.bank nonce in
+    let t = tag near.me near text in
     ap (λ (b : List ℕ). caller_at b (sealed_text near text ++ rest)) (sym ends.bank)
-    ∙ ap (caller_at near.bank) (append_assoc text (tag near text) rest) ∙ caller-there near.me near.bank (tag near text ++ rest) sized.me sized.bank
+    ∙ ap (caller_at near.bank) (append_assoc text t rest) ∙ caller-there near.me near.bank nonce (t ++ rest) sized.me sized.bank drawn
 
-pub hello-again-there : (near far : Link) (rest : List ℕ) → AreEnds near far → IsSized near
-    → hello_at far (sealed_text near (hello_text near.me near.bank) ++ rest) ≡ Ok true
-hello-again-there near far rest ends sized =
-    let text = hello_text near.me near.bank in
+pub hello-again-there : (near far : Link) (nonce rest : List ℕ) → AreEnds near far → IsSized near → length nonce ≡ 16
+    → hello_at far (sealed_text near (hello_text near.me near.bank nonce) ++ rest) ≡ Ok true
+hello-again-there near far nonce rest ends sized drawn =
+    let text = hello_text near.me near.bank nonce in
     let bytes = sealed_text near text ++ rest in
-    let size = length-hello near.me near.bank sized.bank in
+    let size = length-hello near.me near.bank nonce sized.bank drawn in
     let found : sealed_at far (4 + hello_length) bytes ≡ Ok true =
     ap (λ (n : ℕ). sealed_at far n bytes) (sym size) ∙ ap (λ (b : List ℕ). sealed_at far (length text) (b ++ rest))
     (same_sealed near far text ends) ∙ there far text rest in
-    rw (caller-again-there near far rest ends sized, eq-eqb near.me far.peer ends.there) found
+    rw (caller-again-there near far nonce rest ends sized drawn, eq-eqb near.me far.peer ends.there) found

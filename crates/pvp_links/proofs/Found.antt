@@ -19,9 +19,9 @@ use Rattle.pvp_wire.proofs.Streams.{length-spelling}
 use Rattle.pvp_links.specs.declared.fault.LinkFault.{LinkFault}
 use Rattle.pvp_links.specs.declared.link.Link.{Link}
 use Rattle.pvp_links.specs.Sealing.{tag_size, hello_text, hello_length, ping_text}
-use Rattle.pvp_links.specs.Fronts.{Said, Lives, Says, BeginsWith, IsHeard, sealed_at, caller_at, hello_of, hello_at, is_length, size_if, size_at, addressed_envelope, said_of, said_in, with_size, front_of, front_where, front}
+use Rattle.pvp_links.specs.Fronts.{Said, Lives, Says, BeginsWith, IsHeard, sealed_at, caller_at, nonce_at, hello_of, hello_at, is_length, size_if, size_at, addressed_envelope, said_of, said_in, with_size, front_of, front_where, front}
 use Rattle.pvp_links.proofs.Sealed.{is_there}
-use Rattle.pvp_links.proofs.Again.{length-first}
+use Rattle.pvp_links.proofs.Again.{length-first, length-hello}
 
 -- ---- tests that did not fail
 
@@ -184,7 +184,7 @@ ping-found link bytes size fits e =
 -- ---- hellos
 
 record IsCaller (bank bytes : List ℕ) (actor : ℕ) : Type 0 where
-  long : 38 ≤ length bytes
+  long : 54 ≤ length bytes
   counts : big_number 4 bytes ≡ hello_length
   id : take 32 (drop 6 bytes) ≡ bank
   who : big_number 2 (drop 4 bytes) ≡ actor
@@ -220,28 +220,33 @@ hello_of-is link bytes (Err why) e = absurd cc
 drop-two : (bytes : List ℕ) → drop 2 (drop 4 bytes) ≡ drop 6 bytes
 drop-two bytes = drop-drop 2 4 bytes
 
-hello-text : (bank bytes : List ℕ) (actor : ℕ) → IsBytes bytes → IsCaller bank bytes actor → take 38 bytes ≡ hello_text actor bank
+hello-text : (bank bytes : List ℕ) (actor : ℕ) → IsBytes bytes → IsCaller bank bytes actor → take 54 bytes ≡ hello_text actor bank (nonce_at bytes)
 hello-text bank bytes actor fits c =
     let d = drop 4 bytes in
     let dl : length d + 4 ≡ length bytes = omega (arith, length-drop 4 bytes, c.long) in
     let read : number_at 2 d ≡ Ok (actor, drop 2 d) = rw (le-ltb (length d) 2 (omega (arith, dl, c.long)), c.who) refl in
     let second : d ≡ number 2 actor ++ drop 2 d = (n2.takes d actor (drop 2 d) (IsBytes-drop 4 bytes fits) read).0.parts in
     let rest = drop 6 bytes in
-    let third : drop 2 d ≡ bank ++ drop 32 rest = drop-two bytes ∙ sym (take-append-drop 32 rest) ∙ ap (λ (x : List ℕ). x ++ drop 32 rest) c.id in
+    let behind = drop 38 bytes in
+    let nonce = nonce_at bytes in
+    let last = drop 16 behind in
+    let fourth : drop 32 rest ≡ nonce ++ last = drop-drop 32 6 bytes ∙ sym (take-append-drop 16 behind) in
+    let third : drop 2 d ≡ bank ++ (nonce ++ last) =
+    drop-two bytes ∙ sym (take-append-drop 32 rest) ∙ ap (λ (x : List ℕ). x ++ drop 32 rest) c.id ∙ ap (λ (x : List ℕ). bank ++ x) fourth in
     let first = number-back bytes hello_length fits (omega (arith, c.long)) c.counts in
     let a = number 4 hello_length in
     let b = number 2 actor in
-    let whole : bytes ≡ hello_text actor bank ++ drop 32 rest =
+    let whole : bytes ≡ hello_text actor bank nonce ++ last =
     first ∙ ap (λ (x : List ℕ). a ++ x) (second ∙ ap (λ (x : List ℕ). b ++ x) third)
-    ∙ sym (append_assoc a b (bank ++ drop 32 rest)) ∙ sym (append_assoc (a ++ b) bank (drop 32 rest)) in
+    ∙ sym (append_assoc a b (bank ++ (nonce ++ last))) ∙ sym (append_assoc (a ++ b) bank (nonce ++ last)) ∙ sym (append_assoc ((a ++ b) ++ bank) nonce last) in
     let rl : length rest + 6 ≡ length bytes = omega (arith, length-drop 6 bytes, c.long) in
     let size : length bank ≡ 32 = omega (arith, ap length c.id, length-take 32 rest, rl, c.long) in
-    let count : length (hello_text actor bank) ≡ 38 =
-    omega (arith, length-append (a ++ b) bank, length-append a b, length-number 4 hello_length, length-number 2 actor, size) in
-    ap (take 38) whole ∙ take_at (hello_text actor bank) (drop 32 rest) 38 count
+    let drawn : length nonce ≡ 16 = omega (arith, length-take 16 behind, length-drop 38 bytes, c.long) in
+    let count : length (hello_text actor bank nonce) ≡ 54 = length-hello actor bank nonce size drawn in
+    ap (take 54) whole ∙ take_at (hello_text actor bank nonce) last 54 count
 
 pub hello-found : (link : Link) (bytes : List ℕ) → IsBytes bytes → hello_at link bytes ≡ Ok true
-    → BeginsWith link (hello_text link.peer link.bank) (4 + hello_length + tag_size link) bytes
+    → BeginsWith link (hello_text link.peer link.bank (nonce_at bytes)) (4 + hello_length + tag_size link) bytes
 hello-found link bytes fits e =
     let h = hello_of-is link bytes (caller_at link.bank bytes) e in
     let begins = is_there link (4 + hello_length) bytes h.1 in

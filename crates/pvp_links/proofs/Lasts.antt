@@ -78,12 +78,12 @@ caller-lasts bank bytes more h =
     let there = λ (xs : List ℕ). let found : Result (Option ℕ) LinkFault = cond (nat_lt (length xs) (4 + hello_length)) (Ok None) (named xs) in found in
     let inner : there bytes ≢ Ok None → there (bytes ++ more) ≡ there bytes = λ k.
     let c = enough (nat_lt (length bytes) (4 + hello_length)) _ _ k in
-    let whole : 38 ≤ length bytes = ltb-false _ _ c in
+    let whole : 54 ≤ length bytes = ltb-false _ _ c in
     let id : take 32 (drop 6 (bytes ++ more)) ≡ take 32 (drop 6 bytes) =
     ap (take 32) (drop-append-le 6 bytes more (omega arith)) ∙ take-append-le 32 (drop 6 bytes) more (omega (arith, length-drop 6 bytes)) in
     let who : big_number 2 (drop 4 (bytes ++ more)) ≡ big_number 2 (drop 4 bytes) =
     ap (big_number 2) (drop-append-le 4 bytes more long) ∙ big_from-append 2 (drop 4 bytes) more (omega (arith, length-drop 4 bytes)) in
-    rw (longer bytes more 38 whole, c, id, who) refl in
+    rw (longer bytes more 54 whole, c, id, who) refl in
     let behind : cond (not (big_number 4 bytes == hello_length)) (Err fault.Hello) (there bytes) ≢ Ok None = λ e. h (rw b e) in
     rw (longer bytes more 4 long, b, number-is) (gate (not (big_number 4 bytes == hello_length)) (Ok None) (Err fault.Hello) (there bytes)
     (there (bytes ++ more)) inner behind)

@@ -28,7 +28,7 @@ sealed-never : (link : Link) (size : ℕ) (bytes : List ℕ) → sealed_at link 
 unfolding sealed_at
 sealed-never link size bytes =
     past (nat_lt (length bytes) (size + tag_size link)) _ _ fault.NoMemory (λ e. cc)
-    (past (not (bytes_eq (tag link (take size bytes)) (take (tag_size link) (drop size bytes)))) _ _ fault.NoMemory (λ e. cc) (λ e. cc))
+    (past (not (bytes_eq (tag link.peer link (take size bytes)) (take (tag_size link) (drop size bytes)))) _ _ fault.NoMemory (λ e. cc) (λ e. cc))
 
 sized-never : (size : ℕ) (r : Result Bool LinkFault) → (r ≡ Err fault.NoMemory → ⊥) → size_if size r ≡ Err fault.NoMemory → ⊥
 sized-never size (Ok true) h e = cc

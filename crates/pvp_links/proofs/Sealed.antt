@@ -12,7 +12,7 @@ use Rattle.pvp_tags.specs.Hmac.{hmac, hmac_by_block}
 use Rattle.pvp_wire.proofs.Formats.{not-false}
 use Rattle.pvp_links.specs.declared.fault.LinkFault.{LinkFault}
 use Rattle.pvp_links.specs.declared.link.Link.{Link}
-use Rattle.pvp_links.specs.Sealing.{tag_under, tag, size_under, tag_size, sealed_text, AreEnds}
+use Rattle.pvp_links.specs.Sealing.{head_of, tag_under, tag, size_under, tag_size, sealed_from, sealed_text, AreEnds}
 use Rattle.pvp_links.specs.Fronts.{sealed_at, BeginsWith}
 
 -- ---- a tag has its size
@@ -34,39 +34,42 @@ either false x y p q = q
 hmac-length : (key message : List ℕ) → length (hmac key message) ≡ 32
 hmac-length key message = either (nat_le (length key) 64) (hmac_by_block key message) (hmac_by_block (sha256 key) message) (sha-length _) (sha-length _)
 
-under-length : (key : Option (List ℕ)) (bank text : List ℕ) → length (tag_under key bank text) ≡ size_under key
+under-length : (key : Option (List ℕ)) (head text : List ℕ) → length (tag_under key head text) ≡ size_under key
 unfolding tag_under size_under
-under-length None bank text = refl
-under-length (Some key) bank text = length-take 16 (hmac key (bank ++ text)) ∙ (omega (arith, hmac-length key (bank ++ text)))
+under-length None head text = refl
+under-length (Some key) head text = length-take 16 (hmac key (head ++ text)) ∙ (omega (arith, hmac-length key (head ++ text)))
 
-pub tag-length : (link : Link) (text : List ℕ) → length (tag link text) ≡ tag_size link
-tag-length link text = under-length link.key link.bank text
+pub tag-length : (sender : ℕ) (link : Link) (text : List ℕ) → length (tag sender link text) ≡ tag_size link
+tag-length sender link text = under-length link.key (head_of sender link.count) text
 
-pub sealed-length : (link : Link) (text : List ℕ) → length (sealed_text link text) ≡ length text + tag_size link
-sealed-length link text = length-append text (tag link text) ∙ ap (λ (n : ℕ). length text + n) (tag-length link text)
+pub sealed-length : (sender : ℕ) (link : Link) (text : List ℕ) → length (sealed_from sender link text) ≡ length text + tag_size link
+sealed-length sender link text = length-append text (tag sender link text) ∙ ap (λ (n : ℕ). length text + n) (tag-length sender link text)
 
 -- ---- both ends tag alike
 
-pub same_tag : (near far : Link) (text : List ℕ) → AreEnds near far → tag near text ≡ tag far text
-same_tag near far text ends = ap (λ (k : Option (List ℕ)). tag_under k near.bank text) ends.key ∙ ap (λ (b : List ℕ). tag_under far.key b text) ends.bank
+pub same_tag : (near far : Link) (text : List ℕ) → AreEnds near far → tag near.me near text ≡ tag far.peer far text
+same_tag near far text ends =
+    ap (λ (k : Option (List ℕ)). tag_under k (head_of near.me near.count) text) ends.key
+    ∙ ap (λ (n : ℕ). tag_under far.key (head_of n near.count) text) ends.there ∙ ap (λ (n : ℕ). tag_under far.key (head_of far.peer n) text) ends.count
 
-pub same_sealed : (near far : Link) (text : List ℕ) → AreEnds near far → sealed_text near text ≡ sealed_text far text
+pub same_sealed : (near far : Link) (text : List ℕ) → AreEnds near far → sealed_text near text ≡ sealed_from far.peer far text
 same_sealed near far text ends = ap (λ (t : List ℕ). text ++ t) (same_tag near far text ends)
 
 -- ---- what was put is found
 
-pub there : (link : Link) (text rest : List ℕ) → sealed_at link (length text) (sealed_text link text ++ rest) ≡ Ok true
+pub there : (link : Link) (text rest : List ℕ) → sealed_at link (length text) (sealed_from link.peer link text ++ rest) ≡ Ok true
 unfolding sealed_at
 there link text rest =
-    let t = tag link text in
-    let bytes = sealed_text link text ++ rest in
+    let t = tag link.peer link text in
+    let sealed = sealed_from link.peer link text in
+    let bytes = sealed ++ rest in
     let shape : bytes ≡ text ++ (t ++ rest) = append_assoc text t rest in
-    let size = sealed-length link text in
-    let long : nat_lt (length bytes) (length text + tag_size link) ≡ false = le-ltb _ _ (omega (arith, length-append (sealed_text link text) rest, size)) in
+    let size = sealed-length link.peer link text in
+    let long : nat_lt (length bytes) (length text + tag_size link) ≡ false = le-ltb _ _ (omega (arith, length-append sealed rest, size)) in
     let front : take (length text) bytes ≡ text = ap (take (length text)) shape ∙ take_at text (t ++ rest) (length text) refl in
     let behind : take (tag_size link) (drop (length text) bytes) ≡ t =
     ap (λ (b : List ℕ). take (tag_size link) (drop (length text) b)) shape
-    ∙ ap (take (tag_size link)) (drop_at text (t ++ rest) (length text) refl) ∙ take_at t rest (tag_size link) (tag-length link text) in
+    ∙ ap (take (tag_size link)) (drop_at text (t ++ rest) (length text) refl) ∙ take_at t rest (tag_size link) (tag-length link.peer link text) in
     let same : bytes_eq t t ≡ true = (bytes_eq-Decides t t).1 refl in
     rw (long, front, behind, same) refl
 
@@ -96,12 +99,14 @@ is_there link size bytes e =
     let text = take size bytes in
     let t = take (tag_size link) (drop size bytes) in
     let a = wanted (nat_lt (length bytes) (size + tag_size link)) _ e in
-    let b = passed (not (bytes_eq (tag link text) t)) _ _ a.1 in
+    let own = tag link.peer link text in
+    let b = passed (not (bytes_eq own t)) _ _ a.1 in
     let long : size + tag_size link ≤ length bytes = ltb-false _ _ a.0 in
-    let same : tag link text ≡ t = (bytes_eq-Decides (tag link text) t).0 (not-false _ b.0) in
-    let whole : take (size + tag_size link) bytes ≡ sealed_text link text = split size (tag_size link) bytes long ∙ ap (λ (x : List ℕ). text ++ x) (sym same) in
+    let same : own ≡ t = (bytes_eq-Decides own t).0 (not-false _ b.0) in
+    let whole : take (size + tag_size link) bytes ≡ sealed_from link.peer link text =
+    split size (tag_size link) bytes long ∙ ap (λ (x : List ℕ). text ++ x) (sym same) in
     record {
       whole = whole;
-      exact = sym (sealed-length link text ∙ (omega (arith, length-take size bytes, long)));
+      exact = sym (sealed-length link.peer link text ∙ (omega (arith, length-take size bytes, long)));
       within = long;
     }

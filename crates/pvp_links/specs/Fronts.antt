@@ -11,13 +11,13 @@ use Rattle.pvp_wire.specs.Spelling.{spelling}
 use Rattle.pvp_links.specs.declared.fault.LinkFault.{LinkFault}
 use Rattle.pvp_links.specs.declared.fault.LinkFault.TheVariants as fault
 use Rattle.pvp_links.specs.declared.link.Link.{Link}
-use Rattle.pvp_links.specs.Sealing.{tag, tag_size, sealed_text, hello_length}
+use Rattle.pvp_links.specs.Sealing.{tag, tag_size, sealed_from, sealed_text, hello_length}
 
 -- a text of so many bytes stands there with its tag, or more bytes are wanted
 unfoldable pub sealed_at : Link → ℕ → List ℕ → Result Bool LinkFault
 sealed_at link size bytes =
     if nat_lt (length bytes) (size + tag_size link) then Ok false
-    else if not (bytes_eq (tag link (take size bytes)) (take (tag_size link) (drop size bytes))) then Err fault.Tag
+    else if not (bytes_eq (tag link.peer link (take size bytes)) (take (tag_size link) (drop size bytes))) then Err fault.Tag
     else Ok true
 
 -- ---- hellos
@@ -30,6 +30,10 @@ caller_at bank bytes =
     else if nat_lt (length bytes) (4 + hello_length) then Ok None
     else if not (bytes_eq (take 32 (drop 6 bytes)) bank) then Err fault.Hello
     else Ok (Some (big_number 2 (drop 4 bytes)))
+
+-- what it drew for the stream, where a hello stands there
+abbrev pub nonce_at : List ℕ → List ℕ
+nonce_at bytes = take 16 (drop 38 bytes)
 
 -- the hello of that actor has to be of the link's peer, and tagged
 abbrev pub hello_of : Link → List ℕ → Result (Option ℕ) LinkFault → Result Bool LinkFault
@@ -117,10 +121,10 @@ abbrev pub IsFoundAt : Link → Link → List ℕ → List ℕ → Said → Type
 IsFoundAt far near text rest said =
     front far (sealed_text near text ++ rest) ≡ Ok (Some (said, length (sealed_text near text)))
 
--- these bytes begin with a text and its tag, which are so many
+-- these bytes begin with a text and the tag that the link's peer puts behind it next, which are so many
 pub record BeginsWith (link : Link) (text : List ℕ) (size : ℕ) (bytes : List ℕ) : Type 0 where
-  pub whole : take size bytes ≡ sealed_text link text
-  pub exact : size ≡ length (sealed_text link text)
+  pub whole : take size bytes ≡ sealed_from link.peer link text
+  pub exact : size ≡ length (sealed_from link.peer link text)
   pub within : size ≤ length bytes
 
 -- an envelope that is from the link's peer and to this end stands at the front, with the tag of its frame

@@ -57,10 +57,11 @@ pub fn hear_all<R: Read, H: Hearer, T: Wait>(
     ensures { IsHeardOut H.got link.now held (R.remaining reader.old) (R.remaining reader.new)
         hearer.old hearer.new result }
 {
+    let mut at = *link;
     let mut intake = held;
     let mut buffer = [0u8; PIECE_BYTES];
     for _ in rt.forever() {
-        if let Some(end) = hear_whole(rt, alloc, link, &mut intake, hearer) {
+        if let Some(end) = hear_whole(rt, alloc, &mut at, &mut intake, hearer) {
             return end;
         }
         let Ok(got) = reader.read(&mut buffer) else {
@@ -90,11 +91,12 @@ fn end_with(intake: &Intake) -> LinkEnd
 fn hear_whole<H: Hearer, T: Wait>(
     rt: &T,
     alloc: Global,
-    link: &Link,
+    link: &mut Link,
     intake: &mut Intake,
     hearer: &mut H,
 ) -> Option<LinkEnd>
-    ensures { HasTaken H.got link.now intake.old intake.new hearer.old hearer.new result }
+    ensures { HasTaken H.got link.old link.new intake.old intake.new hearer.old hearer.new
+        result }
 {
     for _ in rt.forever() {
         let piece = match intake.next(alloc, link) {
@@ -102,6 +104,7 @@ fn hear_whole<H: Hearer, T: Wait>(
             Ok(None) => return None,
             Ok(Some(piece)) => piece,
         };
+        link.advance();
         if !hearer.hear(rt, piece) {
             return Some(LinkEnd::Unwanted);
         }

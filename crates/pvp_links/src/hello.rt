@@ -1,5 +1,5 @@
-//! The hello with which a stream begins: who opened it, and of which bank.
-ghost use Rattle.std.specs.Prelude.{◌≡◌, ◌≤◌, ◌+◌, length, true, IfOk};
+//! The hello with which a stream begins: who speaks, of which bank, and what it drew for this stream.
+ghost use Rattle.std.specs.Prelude.{◌≡◌, ◌≤◌, ◌+◌, length, true, IfOk, IfSome};
 ghost use Rattle.pvp_links.specs.Sealing.{tag_size, hello_length};
 ghost use Rattle.pvp_links.specs.Fronts.{caller_at, hello_at};
 
@@ -8,16 +8,21 @@ use crate::link::Link;
 use crate::seal::sealed_at;
 use byteorder::{BigEndian, ByteOrder};
 
-/// How many bytes the length of a hello counts: an actor's number and a bank's id.
-pub(crate) const HELLO_LENGTH: u32 = 34;
+/// How many bytes the length of a hello counts: an actor's number, a bank's id and what was drawn.
+pub(crate) const HELLO_LENGTH: u32 = 50;
 
 /// How many bytes a hello has with its length.
-pub(crate) const HELLO_BYTES: usize = 38;
+pub(crate) const HELLO_BYTES: usize = 54;
 
-/// Who opens the stream, by the hello at the front of these bytes.
+/// Where in it stands what was drawn.
+pub(crate) const NONCE_AT: usize = 38;
+
+/// Who speaks, by the hello at the front of these bytes.
 #[tactic(auto, unfolding(crate::specs::Fronts::caller_at))]
 pub(crate) fn caller_at(bytes: &[u8], bank: &[u8; 32]) -> Result<Option<u16>, LinkFault>
-    ensures { result ≡ caller_at bank.now bytes.now }
+    ensures exact { result ≡ caller_at bank.now bytes.now }
+    ensures within { IfOk result (λ caller. IfSome caller (λ _.
+        4 + hello_length ≤ length bytes.now)) }
 {
     if bytes.len() < 4 {
         return Ok(None);
@@ -28,7 +33,7 @@ pub(crate) fn caller_at(bytes: &[u8], bank: &[u8; 32]) -> Result<Option<u16>, Li
     if bytes.len() < HELLO_BYTES {
         return Ok(None);
     }
-    if &bytes[6..HELLO_BYTES] != bank.as_slice() {
+    if &bytes[6..NONCE_AT] != bank.as_slice() {
         return Err(LinkFault::Hello);
     }
     Ok(Some(BigEndian::read_u16(&bytes[4..])))

@@ -3,7 +3,7 @@ ghost use Rattle.std.specs.Prelude.{◌≡◌, length};
 
 use crate::arrival::Piece;
 use crate::fault::LinkFault;
-use crate::hello::{HELLO_BYTES, caller_at, hello_at};
+use crate::hello::{HELLO_BYTES, NONCE_AT, caller_at, hello_at};
 use crate::link::Link;
 use crate::piece::piece_at;
 use pvp_wire::drop_front;
@@ -30,8 +30,9 @@ impl Model for Intake {
 }
 
 impl Intake {
-    ghost use Rattle.std.specs.Prelude.{[], ◌++◌, OnOk, OnErr};
-    ghost use Rattle.pvp_links.specs.Fronts.{caller_at};
+    ghost use Rattle.std.specs.Prelude.{[], ◌++◌, ◌+◌, ◌≤◌, drop, IfOk, IfSome, OnOk, OnErr};
+    ghost use Rattle.pvp_links.specs.Sealing.{hello_length};
+    ghost use Rattle.pvp_links.specs.Fronts.{caller_at, nonce_at};
     ghost use Rattle.pvp_links.specs.Intakes.{TakesHello, TakesNext};
 
     /// An intake of a stream of which nothing came. It takes no memory.
@@ -64,12 +65,33 @@ impl Intake {
         self.held.extend_from_slice(bytes)
     }
 
-    /// Who opens the stream, by the hello at its front, before its tag is looked at. `None` where more bytes are wanted.
-    /// `Err` where the first frame is no hello, or one of another bank. It takes nothing.
+    /// Who speaks, by the hello at the front, before a tag is looked at. `None` where more bytes are wanted. `Err` where the
+    /// first text is no hello, or one of another bank. It takes nothing.
     pub fn caller(&self, bank: &[u8; 32]) -> Result<Option<u16>, LinkFault>
-        ensures { result ≡ caller_at bank.now self.now }
+        ensures exact { result ≡ caller_at bank.now self.now }
+        ensures within { IfOk result (λ caller. IfSome caller (λ _.
+            4 + hello_length ≤ length self.now)) }
     {
         caller_at(&self.held[self.used..], bank)
+    }
+
+    /// What the caller drew for this stream, where its hello stands at the front. It takes nothing.
+    pub fn nonce(&self) -> [u8; 16]
+        requires { 4 + hello_length ≤ length self.now }
+        ensures { result ≡ nonce_at self.now }
+    {
+        let mut nonce = [0; 16];
+        let bytes = &self.held[self.used..];
+        nonce.copy_from_slice(&bytes[NONCE_AT..HELLO_BYTES]);
+        nonce
+    }
+
+    /// Takes a hello without a tag off the front.
+    pub fn take_call(&mut self)
+        requires { 4 + hello_length ≤ length self.old }
+        ensures { self.new ≡ drop (4 + hello_length) self.old }
+    {
+        self.used += HELLO_BYTES;
     }
 
     /// Takes the hello of this link's peer off the front, with its tag: false where more bytes are wanted. After `Err`

@@ -1,12 +1,12 @@
 //! What holds of the streams of a writer and of the two ends of a link: functions that do nothing, whose contracts say it.
-ghost use Rattle.std.specs.Prelude.{Contains, Err, List, None, Ok, Some, false, true, ℕ, ◌++◌, ◌+◌, ◌≡◌, ◌≢◌};
+ghost use Rattle.std.specs.Prelude.{Contains, Err, List, None, Ok, Some, false, length, true, ℕ, ◌++◌, ◌+◌, ◌≡◌, ◌≢◌};
 ghost use Rattle.pvp_wire.specs.declared.stamped.Stamped.{Stamped};
 ghost use Rattle.pvp_links.specs.Writing.{AreWritten, HasOneEach, HasTakenAll};
 ghost use Rattle.pvp_wire.specs.Fits.{IsBytes, IsSpelled};
 ghost use Rattle.pvp_wire.specs.Spelling.{spelling};
 ghost use Rattle.pvp_links.specs.declared.link.Link.{Link};
 ghost use Rattle.pvp_links.specs.Sealing.{AreEnds, IsSized, hello_length, hello_text, ping_text, sealed_text, tag_size};
-ghost use Rattle.pvp_links.specs.Fronts.{BeginsWith, IsFoundAt, IsHeard, Lives, Says, caller_at, front, hello_at};
+ghost use Rattle.pvp_links.specs.Fronts.{BeginsWith, IsFoundAt, IsHeard, Lives, Says, caller_at, front, hello_at, nonce_at};
 
 use crate::fault::LinkFault;
 use crate::writer::Outgoing;
@@ -28,11 +28,13 @@ pub fn put_is_found()
         IsFoundAt far near (spelling stamped) rest (Says stamped) }
     ensures ping { (near far : Link) (rest : List ℕ) → AreEnds near far →
         IsFoundAt far near ping_text rest Lives }
-    ensures caller { (near far : Link) (rest : List ℕ) → AreEnds near far → IsSized near →
-        caller_at far.bank (sealed_text near (hello_text near.me near.bank) ++ rest)
+    ensures caller { (near far : Link) (nonce rest : List ℕ) → AreEnds near far → IsSized near →
+        length nonce ≡ 16 →
+        caller_at far.bank (sealed_text near (hello_text near.me near.bank nonce) ++ rest)
         ≡ Ok (Some near.me) }
-    ensures hello { (near far : Link) (rest : List ℕ) → AreEnds near far → IsSized near →
-        hello_at far (sealed_text near (hello_text near.me near.bank) ++ rest) ≡ Ok true }
+    ensures hello { (near far : Link) (nonce rest : List ℕ) → AreEnds near far → IsSized near →
+        length nonce ≡ 16 →
+        hello_at far (sealed_text near (hello_text near.me near.bank nonce) ++ rest) ≡ Ok true }
 {}
 
 /// What is found was put so, to the byte, with its tag: an envelope of the link's peer to this end, a ping, and the hello
@@ -43,7 +45,8 @@ pub fn found_was_put()
     ensures ping { (link : Link) (bytes : List ℕ) (size : ℕ) → IsBytes bytes →
         front link bytes ≡ Ok (Some (Lives, size)) → BeginsWith link ping_text size bytes }
     ensures hello { (link : Link) (bytes : List ℕ) → IsBytes bytes → hello_at link bytes ≡ Ok true →
-        BeginsWith link (hello_text link.peer link.bank) (4 + hello_length + tag_size link) bytes }
+        BeginsWith link (hello_text link.peer link.bank (nonce_at bytes))
+        (4 + hello_length + tag_size link) bytes }
 {}
 
 /// More bytes change nothing of what stands at the front, once it is whole or wrong: so it does not matter how a stream

@@ -34,7 +34,7 @@ pub use link::Link;
 pub use outbox::Outbox;
 pub use peer::{PeerEnd, StreamEnd, serve_peer};
 pub use player::Player;
-pub use putting::{put_frame, put_hello, put_ping};
+pub use putting::{put_call, put_frame, put_hello, put_ping};
 pub use served::Served;
 pub use serving::serve_streams;
 pub use sockets::{Connected, Incoming, NetFault, Sending, connect_all, may_send};

@@ -1,20 +1,31 @@
 //! What is written to a stream.
 ghost use Rattle.std.specs.Prelude.{◌≡◌, ◌++◌, OnOk, OnErr};
-ghost use Rattle.pvp_links.specs.Sealing.{sealed_text, hello_text, ping_text};
+ghost use Rattle.pvp_wire.specs.Spelling.{number};
+ghost use Rattle.pvp_links.specs.Sealing.{hello_length, hello_text, ping_text, sealed_text};
 
-use crate::hello::{HELLO_BYTES, HELLO_LENGTH};
+use crate::hello::{HELLO_BYTES, HELLO_LENGTH, NONCE_AT};
 use crate::link::Link;
 use byteorder::{BigEndian, ByteOrder};
 use std::alloc::AllocError;
 
-/// Puts behind `out` the hello with which this actor opens a stream to its peer, with its tag. `Err` where memory is
-/// refused: then `out` is as it was.
-pub fn put_hello(link: &Link, out: &mut Vec<u8>) -> Result<(), AllocError>
+/// Puts behind `out` the hello with which this end opens a stream, before there is a key for it: without a tag. `Err` where
+/// memory is refused: then `out` is as it was.
+pub fn put_call(link: &Link, nonce: &[u8; 16], out: &mut Vec<u8>) -> Result<(), AllocError>
     ensures put { OnOk result (out.new.items ≡ out.old.items
-        ++ sealed_text link.now (hello_text link.now.me link.now.bank)) }
+        ++ hello_text link.now.me link.now.bank nonce.now) }
     ensures refused { OnErr result (out.new.items ≡ out.old.items) }
 {
-    put_sealed(link, &hello_text(link.me(), link.bank()), out)
+    out.extend_from_slice(&hello_text(link.me(), link.bank(), nonce))
+}
+
+/// Puts behind `out` the hello with which this end shows who it is, with its tag. `Err` where memory is refused: then `out`
+/// is as it was.
+pub fn put_hello(link: &Link, nonce: &[u8; 16], out: &mut Vec<u8>) -> Result<(), AllocError>
+    ensures put { OnOk result (out.new.items ≡ out.old.items
+        ++ sealed_text link.now (hello_text link.now.me link.now.bank nonce.now)) }
+    ensures refused { OnErr result (out.new.items ≡ out.old.items) }
+{
+    put_sealed(link, &hello_text(link.me(), link.bank(), nonce), out)
 }
 
 /// Puts a ping behind `out`, with its tag. `Err` where memory is refused: then `out` is as it was.
@@ -42,7 +53,7 @@ fn put_sealed(link: &Link, bytes: &[u8], out: &mut Vec<u8>) -> Result<(), AllocE
 {
     let before = out.len();
     out.extend_from_slice(bytes)?;
-    let Some(tag) = link.tag(bytes) else {
+    let Some(tag) = link.tag(link.me(), bytes) else {
         return Ok(());
     };
     let put = out.extend_from_slice(&tag);
@@ -53,11 +64,21 @@ fn put_sealed(link: &Link, bytes: &[u8], out: &mut Vec<u8>) -> Result<(), AllocE
 }
 
 /// The hello of an actor of a bank.
-#[tactic(auto, unfolding(pvp_wire::specs::Spelling::number))]
-fn hello_text(actor: u16, bank: &[u8; 32]) -> [u8; HELLO_BYTES]
-    ensures { result ≡ hello_text actor bank.now }
+fn hello_text(actor: u16, bank: &[u8; 32], nonce: &[u8; 16]) -> [u8; HELLO_BYTES]
+    ensures { result ≡ hello_text actor bank.now nonce.now }
 {
     let mut text = [0; HELLO_BYTES];
+    text[..NONCE_AT].copy_from_slice(&caller_text(actor, bank));
+    text[NONCE_AT..].copy_from_slice(nonce.as_slice());
+    text
+}
+
+/// What stands in it before what was drawn.
+#[tactic(auto, unfolding(pvp_wire::specs::Spelling::number))]
+fn caller_text(actor: u16, bank: &[u8; 32]) -> [u8; NONCE_AT]
+    ensures { result ≡ number 4 hello_length ++ number 2 actor ++ bank.now }
+{
+    let mut text = [0; NONCE_AT];
     BigEndian::write_u32(&mut text[..4], HELLO_LENGTH);
     BigEndian::write_u16(&mut text[4..6], actor);
     text[6..].copy_from_slice(bank.as_slice());

@@ -1,7 +1,8 @@
 -- Who may talk over a stream, and by which key.
-use Rattle.std.specs.Prelude.{◌≡◌, ◌≢◌, ℕ, true, List, Option, Some, None, Result, Ok, Err}
+use Rattle.std.specs.Prelude.{◌≡◌, ◌≢◌, ℕ, true, List, ◌++◌, Option, Some, None, Result, Ok, Err}
 use Rattle.pvp_links.specs.declared.link.Link.{Link}
-use Rattle.pvp_links.specs.Fronts.{caller_at}
+use Rattle.pvp_links.specs.Fronts.{caller_at, nonce_at}
+use Rattle.pvp_links.specs.Sealing.{next, over}
 use Rattle.pvp_links.specs.Intakes.{TakesHello}
 use Rattle.pvp_places.specs.declared.keys.Keys.{Keys}
 use Rattle.pvp_places.specs.declared.serving.Paper.TheVariants as papers
@@ -21,13 +22,30 @@ abbrev pub KnownBy : Option Keys → ℕ → Option (List ℕ) → Type 0
 KnownBy None caller key = key ≡ None
 KnownBy (Some keys) caller key = (key_with keys.shared.items caller ≡ key) × (key ≢ None)
 
--- WHO CALLS: who says so in a hello of this bank, over a link that may be and by the key that the two share
-pub record IsCaller (door : Door) (held : List ℕ) (link : Link) : Type 0 where
+-- a door knows a caller as the other end of this link: it may be, and it is by the key that the two share
+pub record IsKnown (door : Door) (caller : ℕ) (link : Link) : Type 0 where
   pub me : link.me ≡ door.me
+  pub peer : link.peer ≡ caller
   pub bank : link.bank ≡ door.bank
-  pub said : caller_at door.bank held ≡ Ok (Some link.peer)
-  pub known : KnownBy door.keys link.peer link.key
+  pub known : KnownBy door.keys caller link.key
 
--- WHO IS LET IN: a caller whose whole hello came, with its tag; and these bytes came behind it
-abbrev pub IsLetIn : Door → Link → List ℕ → Type 0
-IsLetIn door link rest = (held : List ℕ) × IsCaller door held link × TakesHello link held (Ok true) rest
+-- the peer's hello came over this link with its tag, and these bytes behind it; and the link is now that behind it
+abbrev pub Shows : Link → Link → List ℕ → Type 0
+Shows link now rest = (held : List ℕ) × TakesHello link held (Ok true) rest × (now ≡ next link)
+
+-- WHO IS LET IN: who says so in a hello of this bank, and is known; and shows itself by a tag that is over what it drew for
+-- this stream and what this end drew for it
+pub record IsLetIn (door : Door) (link : Link) (rest : List ℕ) : Type 0 where
+  pub held : List ℕ
+  pub caller : ℕ
+  pub pair : Link
+  pub own : List ℕ
+  pub said : caller_at door.bank held ≡ Ok (Some caller)
+  pub known : IsKnown door caller pair
+  pub shows : Shows (over (nonce_at held ++ own) pair) link rest
+
+-- WHO ANSWERS A CALL: who shows itself by a tag that is over what this end drew for the stream and what it says it drew
+pub record IsAnswered (pair link : Link) (rest : List ℕ) : Type 0 where
+  pub own : List ℕ
+  pub theirs : List ℕ
+  pub shows : Shows (over (own ++ theirs) pair) link rest

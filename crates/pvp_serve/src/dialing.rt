@@ -1,12 +1,13 @@
 //! Streams that an actor opens: to each site that listens for it.
 
+use crate::greeting::call;
 use crate::host::Wires;
 use crate::inbox::Inbox;
 use crate::streams::{announce, read_all, settle, write_all};
 use crossbeam_channel::Sender;
-use pvp_links::{Intake, Link, put_hello};
+use pvp_links::{Intake, Link};
 use pvp_places::Address;
-use std::io::{self, ErrorKind, Write};
+use std::io::{self, ErrorKind};
 use std::net::{IpAddr, Ipv4Addr, SocketAddr, TcpStream};
 use std::thread;
 use std::time::Duration;
@@ -19,10 +20,13 @@ const FIRST_PAUSE: u64 = 20;
 
 const LAST_PAUSE: u64 = 200;
 
+/// The longest pause where somebody answers who is not the site.
+const REFUSED_PAUSE: u64 = 1_000;
+
 /// How many addresses of a host are looked at.
 const MOST_ADDRESSES: usize = 4;
 
-/// Whom a thread dials, and over which link.
+/// Whom a thread dials, and as which of two ends.
 #[derive(Drop)]
 pub struct Dialed {
     pub address: Address,
@@ -35,17 +39,14 @@ pub fn dial<R: Wires>(rt: R, dialed: Dialed, inbox: Sender<Inbox>) {
     let mut number = 0u64;
     for _ in rt.forever() {
         number = number.saturating_add(1);
-        match connect(rt, &dialed.address) {
-            Err(_) => {
-                thread::sleep(&rt, Duration::from_millis(pause));
-                pause = pause.saturating_mul(2).min(LAST_PAUSE);
-            }
-            Ok(stream) => {
-                pause = FIRST_PAUSE;
-                let _ended = hold(rt, stream, number, &dialed.link, &inbox);
-                thread::sleep(&rt, Duration::from_millis(FIRST_PAUSE));
-            }
-        }
+        pause = match connect(rt, &dialed.address) {
+            Err(_) => pause.saturating_mul(2).min(LAST_PAUSE),
+            Ok(stream) => match hold(rt, stream, number, &dialed.link, &inbox) {
+                Err(_) => pause.saturating_mul(2).min(REFUSED_PAUSE),
+                Ok(()) => FIRST_PAUSE,
+            },
+        };
+        thread::sleep(&rt, Duration::from_millis(pause));
     }
 }
 
@@ -82,19 +83,20 @@ pub fn addresses_of<R: Wires>(
     rt.lookup_host(host, address.port, found)
 }
 
-/// Says who speaks, has the loop know of the stream, and serves it to its end.
+/// Has the site at the other end show who it is, has the loop know of the stream, and serves it to its end. `Err` where the
+/// site does not show itself, or memory is refused: then the stream is closed.
 fn hold<R: Wires>(
     rt: R,
     stream: TcpStream,
     number: u64,
-    link: &Link,
+    pair: &Link,
     inbox: &Sender<Inbox>,
 ) -> io::Result<()> {
-    let alloc = rt.alloc();
     let mut stream = stream;
-    let mut hello = Vec::new(alloc);
-    put_hello(link, &mut hello)?;
-    stream.write_all(hello.as_slice())?;
+    let mut intake = Intake::new(rt.alloc());
+    let Ok(link) = call(rt, &mut stream, &mut intake, pair) else {
+        return Err(io::Error::from(ErrorKind::ConnectionRefused));
+    };
     let theirs = stream.try_clone()?;
     let Ok(told) = inbox.clone() else {
         return Err(io::Error::from(ErrorKind::OutOfMemory));
@@ -102,14 +104,13 @@ fn hold<R: Wires>(
     let Some(outgoing) = announce(rt, inbox, link.peer(), number) else {
         return Err(io::Error::from(ErrorKind::OutOfMemory));
     };
-    let read = *link;
     let ended = outgoing.ended()?;
     let reader = thread::spawn(&rt, move || {
-        read_all(rt, theirs, number, read, Intake::new(alloc), told, ended)
+        read_all(rt, theirs, number, link, intake, told, ended)
     });
     if reader.is_err() {
         return Err(io::Error::from(ErrorKind::OutOfMemory));
     }
-    write_all(rt, stream, *link, outgoing);
+    write_all(rt, stream, link, outgoing);
     Ok(())
 }

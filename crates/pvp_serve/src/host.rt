@@ -7,11 +7,12 @@ use std::sync::Wait;
 use std::thread::Threads;
 use std::time::Clock;
 
-/// Threads, a net and clocks: what each thread of a process has.
+/// Threads, a net, clocks and chance: what each thread of a process has.
 pub trait Wires: Threads
     + Wait
     + Clock
     + Net<Listener = TcpListener, Stream = TcpStream>
+    + RandomSource
     + AllocGlobal
     + Copy
     + Drop
@@ -25,6 +26,7 @@ where
         + Wait
         + Clock
         + Net<Listener = TcpListener, Stream = TcpStream>
+        + RandomSource
         + AllocGlobal
         + Copy
         + Drop
@@ -33,10 +35,10 @@ where
         + 'static,
 {}
 
-/// Files, chance and what prints too: what the loop of a process has.
-pub trait Host: Wires + Files<File = File> + Print + Eprint + RandomSource {}
+/// Files and what prints too: what the loop of a process has.
+pub trait Host: Wires + Files<File = File> + Print + Eprint {}
 
 impl<R> Host for R
 where
-    R: Wires + Files<File = File> + Print + Eprint + RandomSource,
+    R: Wires + Files<File = File> + Print + Eprint,
 {}

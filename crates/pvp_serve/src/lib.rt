@@ -9,6 +9,7 @@ pub mod attending;
 pub mod desk;
 pub mod dialing;
 pub mod folder;
+pub mod greeting;
 pub mod host;
 pub mod inbox;
 pub mod lanes;

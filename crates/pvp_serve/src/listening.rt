@@ -1,7 +1,8 @@
 //! Streams that others open to a site.
-ghost use Rattle.std.specs.Prelude.{IfOk, IfSome};
-ghost use Rattle.pvp_serve.specs.Doors.{IsCaller, IsLetIn};
+ghost use Rattle.std.specs.Prelude.{IfOk};
+ghost use Rattle.pvp_serve.specs.Doors.{IsLetIn};
 
+use crate::greeting::answer;
 use crate::host::Wires;
 use crate::inbox::{Inbox, tell};
 use crate::streams::{announce, read_all, settle, write_all};
@@ -10,24 +11,17 @@ use pvp_links::{Intake, Link, LinkFault};
 use pvp_places::Keys;
 use std::alloc::Global;
 use std::collections::VecDeque;
-use std::io::{self, Read};
 use std::net::{Shutdown, TcpListener, TcpStream};
 use std::sync::Arc;
 use std::sync::atomic::{AtomicBool, AtomicU64, Ordering};
-use std::thread;
 use std::time::Duration;
+use std::{io, thread};
 
 /// How many streams are read at once; further ones are closed.
 const MOST_STREAMS: u64 = 256;
 
 /// How many of them may be of openers who have not said yet who they are.
 const MOST_STRANGERS: usize = 64;
-
-/// How many seconds a stranger has to say who it is.
-const HELLO_SECONDS: u64 = 5;
-
-/// How many bytes a hello has at most, with its tag.
-const HELLO_BYTES: usize = 64;
 
 /// What each stream of a site needs to know.
 #[derive(Drop)]
@@ -180,13 +174,8 @@ fn attend<R: Wires>(
 ) -> Result<(Link, Arc<AtomicBool, Global>), LinkFault>
     ensures { IfOk result (λ heard. IsLetIn door.now heard.0 intake.new) }
 {
-    let wait = Some(Duration::from_secs(HELLO_SECONDS));
-    if stream.set_read_timeout(wait).is_err() {
-        return Err(LinkFault::Hello);
-    }
-    let link = hear(rt, stream, intake, door)?;
-    let _shared = stream.set_read_timeout(None);
     let _settled = settle(stream);
+    let link = answer(rt, stream, intake, door)?;
     let Ok(theirs) = stream.try_clone() else {
         return Err(LinkFault::NoMemory);
     };
@@ -199,77 +188,5 @@ fn attend<R: Wires>(
     match thread::spawn(&rt, move || write_all(rt, theirs, link, outgoing)) {
         Ok(_thread) => Ok((link, ended)),
         Err(_) => Err(LinkFault::NoMemory),
-    }
-}
-
-/// Reads the hello with which a stream opens, and answers the link that it opens.
-fn hear<R: Wires>(
-    rt: R,
-    stream: &mut TcpStream,
-    intake: &mut Intake,
-    door: &Door,
-) -> Result<Link, LinkFault>
-    ensures { IfOk result (λ link. IsLetIn door.now link intake.new) }
-{
-    let mut buffer = [0u8; HELLO_BYTES];
-    let began = rt.monotonic();
-    for _ in 0..HELLO_BYTES {
-        if let Some(link) = take_hello(intake, door)? {
-            return Ok(link);
-        }
-        match stream.read(&mut buffer) {
-            Ok(got) if got > 0 => {
-                if intake.push(&buffer[..got]).is_err() {
-                    return Err(LinkFault::NoMemory);
-                }
-            }
-            _ => return Err(LinkFault::Hello),
-        }
-        if is_late(rt, &began) {
-            break;
-        }
-    }
-    Err(LinkFault::Hello)
-}
-
-/// Takes a caller's hello off the front, with its tag, and answers the link that it opens. `None` where more bytes are
-/// wanted.
-fn take_hello(intake: &mut Intake, door: &Door) -> Result<Option<Link>, LinkFault>
-    ensures { IfOk result (λ found. IfSome found (λ link. IsLetIn door.now link intake.new)) }
-{
-    let Some(link) = caller_of(intake, door)? else {
-        return Ok(None);
-    };
-    match intake.take_hello(&link)? {
-        true => Ok(Some(link)),
-        false => Ok(None),
-    }
-}
-
-/// Whether a stranger has had its time.
-fn is_late<R: Wires>(rt: R, began: &io::Result<Duration>) -> bool {
-    match (began, rt.monotonic()) {
-        (Ok(began), Ok(now)) => now.saturating_sub(*began).as_secs() >= HELLO_SECONDS,
-        _ => true,
-    }
-}
-
-/// The link that a caller opens, once it is known who it is.
-fn caller_of(intake: &Intake, door: &Door) -> Result<Option<Link>, LinkFault>
-    ensures { IfOk result (λ found. IfSome found (λ link. IsCaller door.now intake.now link)) }
-{
-    let Some(caller) = intake.caller(&door.bank)? else {
-        return Ok(None);
-    };
-    let key = match &door.keys {
-        None => None,
-        Some(keys) => match keys.with(caller) {
-            None => return Err(LinkFault::Stranger),
-            key => key,
-        },
-    };
-    match Link::new(door.me, caller, door.bank, key) {
-        None => Err(LinkFault::Stranger),
-        link => Ok(link),
     }
 }

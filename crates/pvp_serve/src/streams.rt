@@ -1,6 +1,6 @@
 //! A stream between two actors: one thread reads it, another writes it.
 ghost use Rattle.std.specs.Prelude.{◌≡◌, ◌+◌, ◌++◌, None, Some, OnOk, OnErr, min, nat_lt, if◌then◌else◌};
-ghost use Rattle.pvp_links.specs.Sealing.{sealed_text};
+ghost use Rattle.pvp_links.specs.Sealing.{next, sealed_text};
 ghost use Rattle.vr_types.specs.Actors.{id_of};
 ghost use Rattle.pvp_serve.specs.Lanes.{is_beyond, piece_text};
 
@@ -49,13 +49,14 @@ pub fn announce<R: Wires>(
 /// Writes what comes until the lane is dropped or a write fails, and then closes the stream.
 pub fn write_all<R: Wires>(rt: R, stream: TcpStream, link: Link, outgoing: Outgoing) {
     let mut stream = stream;
+    let mut link = link;
     let mut bytes: Vec<u8> = Vec::new(rt.alloc());
     for _ in rt.forever() {
         let Some(frame) = outgoing.next(rt) else {
             break;
         };
         bytes.clear();
-        if gather(rt, &link, frame, &outgoing, &mut bytes).is_err()
+        if gather(rt, &mut link, frame, &outgoing, &mut bytes).is_err()
             || stream.write_all(bytes.as_slice()).is_err()
         {
             break;
@@ -68,7 +69,7 @@ pub fn write_all<R: Wires>(rt: R, stream: TcpStream, link: Link, outgoing: Outgo
 /// Puts a frame and those that wait behind it into one write.
 fn gather<R: Wires>(
     rt: R,
-    link: &Link,
+    link: &mut Link,
     first: Vec<u8>,
     outgoing: &Outgoing,
     bytes: &mut Vec<u8>,
@@ -86,17 +87,20 @@ fn gather<R: Wires>(
     Ok(())
 }
 
-/// Puts a frame there, or a ping where it is empty.
-fn put(link: &Link, frame: &[u8], bytes: &mut Vec<u8>) -> Result<(), AllocError>
+/// Puts a frame there, or a ping where it is empty, as the next text of the link.
+fn put(link: &mut Link, frame: &[u8], bytes: &mut Vec<u8>) -> Result<(), AllocError>
     ensures put { OnOk result (
-        bytes.new.items ≡ bytes.old.items ++ sealed_text link.now (piece_text frame.now)) }
+        bytes.new.items ≡ bytes.old.items ++ sealed_text link.old (piece_text frame.now)) }
+    ensures counted { OnOk result (link.new ≡ next link.old) }
     ensures refused { OnErr result (bytes.new.items ≡ bytes.old.items) }
 {
     if frame.is_empty() {
-        put_ping(link, bytes)
+        put_ping(link, bytes)?;
     } else {
-        put_frame(link, frame, bytes)
+        put_frame(link, frame, bytes)?;
     }
+    link.advance();
+    Ok(())
 }
 
 /// How many pieces of a client or a node are handed on one after another before its stream rests: many more than any that waits

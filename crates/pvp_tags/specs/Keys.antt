@@ -11,6 +11,11 @@ pair_text one other = big_bytes 2 (min one other) ++ big_bytes 2 (max one other)
 abbrev pub key_of : List ℕ → ℕ → ℕ → List ℕ
 key_of secret one other = hmac secret (pair_text one other)
 
--- THE TAG of a frame in one life of a bank: half of the HMAC over the bank's id and the frame
+-- THE KEY OF A STREAM between two who share a key, in one life of their bank: over what the opener and then the other
+-- drew for it
+abbrev pub stream_key : List ℕ → List ℕ → List ℕ → List ℕ
+stream_key key bank drawn = hmac key (bank ++ drawn)
+
+-- THE TAG of a text: half of the HMAC over what is tagged before it and the text
 abbrev pub tag_of : List ℕ → List ℕ → List ℕ → List ℕ
-tag_of key bank frame = take 16 (hmac key (bank ++ frame))
+tag_of key head text = take 16 (hmac key (head ++ text))

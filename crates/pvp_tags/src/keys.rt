@@ -1,6 +1,6 @@
 //! Keys that two actors share, and tags by them.
 ghost use Rattle.std.specs.Prelude.{◌≡◌, ◌++◌, []};
-ghost use Rattle.pvp_tags.specs.Keys.{key_of, tag_of, pair_text};
+ghost use Rattle.pvp_tags.specs.Keys.{key_of, pair_text, stream_key, tag_of};
 
 use crate::code::hmac;
 use byteorder::{BigEndian, ByteOrder};
@@ -25,12 +25,19 @@ fn pair_text(one: u16, other: u16) -> [u8; 4]
     text
 }
 
-/// The tag of a frame that goes between two actors who share this key, in this life of their bank: half of the HMAC over
-/// the bank's id and the frame.
-pub fn tag_of(key: &[u8; 32], bank: &[u8; 32], frame: &[u8]) -> [u8; TAG_BYTES]
-    ensures { result ≡ tag_of key.now bank.now frame.now }
+/// The key of one stream between two actors who share a key, in this life of their bank: over the 16 bytes that its opener
+/// drew for it, and the 16 that the other drew behind them. So nothing that went over a stream means anything on another.
+pub fn stream_key(key: &[u8; 32], bank: &[u8; 32], drawn: &[u8; 32]) -> [u8; 32]
+    ensures { result ≡ stream_key key.now bank.now drawn.now }
 {
-    let whole = hmac(key.as_slice(), bank.as_slice(), frame);
+    hmac(key.as_slice(), bank.as_slice(), drawn.as_slice())
+}
+
+/// The tag of a text under the key of a stream: half of the HMAC over a head, which says where the text stands, and the text.
+pub fn tag_of(key: &[u8; 32], head: &[u8], text: &[u8]) -> [u8; TAG_BYTES]
+    ensures { result ≡ tag_of key.now head.now text.now }
+{
+    let whole = hmac(key.as_slice(), head, text);
     let mut tag = [0; TAG_BYTES];
     tag.copy_from_slice(&whole[..TAG_BYTES]);
     tag

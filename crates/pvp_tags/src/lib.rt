@@ -6,4 +6,4 @@ pub mod code;
 pub mod keys;
 
 pub use code::hmac;
-pub use keys::{TAG_BYTES, key_of, tag_of};
+pub use keys::{TAG_BYTES, key_of, stream_key, tag_of};

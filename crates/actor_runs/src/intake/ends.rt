@@ -2,18 +2,21 @@
 
 use crate::intake::pieces::{Heard, is_next};
 use crate::intake::worked::{
-    BANK, COMMIT, COMMIT_TAG, HELLO, HELLO_TAG, KEY, PING, PING_TAG, link,
+    BANK, COMMIT, HELLO, HELLO_TAG, KEY, NONCE, PING, SECOND_PING_TAG, THIRD_COMMIT_TAG, link,
 };
-use pvp_links::{Intake, Link, put_frame, put_hello, put_ping};
+use pvp_links::{Intake, Link, put_call, put_frame, put_hello, put_ping};
 use std::alloc::Global;
 use std::process::Abort;
 use std::test::Fail;
 
 /// Puts a hello, a ping and a frame at the end of these bytes.
 fn put_all(link: &Link, out: &mut Vec<u8>) -> Result<(), Fail> {
-    put_hello(link, out)?;
-    put_ping(link, out)?;
-    put_frame(link, &COMMIT, out)?;
+    let mut link = *link;
+    put_hello(&link, &NONCE, out)?;
+    link.advance();
+    put_ping(&link, out)?;
+    link.advance();
+    put_frame(&link, &COMMIT, out)?;
     Ok(())
 }
 
@@ -48,7 +51,14 @@ fn are_put<R: Abort + AllocGlobal>(
 
 #[test]
 fn tagged_texts_are_put(rt: HostRuntime) -> Result<(), Fail> {
-    let texts: [&[u8]; 6] = [&HELLO, &HELLO_TAG, &PING, &PING_TAG, &COMMIT, &COMMIT_TAG];
+    let texts: [&[u8]; 6] = [
+        &HELLO,
+        &HELLO_TAG,
+        &PING,
+        &SECOND_PING_TAG,
+        &COMMIT,
+        &THIRD_COMMIT_TAG,
+    ];
     are_put(&rt, KEY, &texts)
 }
 
@@ -74,12 +84,23 @@ fn is_opened<R: Abort>(rt: &R, intake: &mut Intake, link: &Link) {
 /// What one end puts the other takes.
 #[test]
 fn the_other_end_takes_all(rt: HostRuntime) -> Result<(), Fail> {
-    let link = link(201, 200, KEY)?;
+    let mut link = link(201, 200, KEY)?;
     let mut intake = come(rt.alloc())?;
     is_opened(&rt, &mut intake, &link);
+    link.advance();
     is_next(&rt, &mut intake, &link, Heard::Ping);
+    link.advance();
     is_next(&rt, &mut intake, &link, Heard::Frame(5));
     is_next(&rt, &mut intake, &link, Heard::Nothing);
+    Ok(())
+}
+
+/// A call is the hello without a tag, whatever the key.
+#[test]
+fn a_call_is_put(rt: HostRuntime) -> Result<(), Fail> {
+    let mut out = Vec::new(rt.alloc());
+    put_call(&link(200, 201, KEY)?, &NONCE, &mut out)?;
+    assert_eq!(rt; out.as_slice(), HELLO.as_slice());
     Ok(())
 }
 

@@ -1,6 +1,6 @@
 //! Hellos, whole, cut and wrong.
 
-use crate::intake::worked::{BANK, HELLO, HELLO_TAG, KEY, link};
+use crate::intake::worked::{BANK, HELLO, HELLO_TAG, KEY, NONCE, link};
 use pvp_links::{Intake, Link, LinkFault};
 use std::alloc::Global;
 use std::process::Abort;
@@ -62,7 +62,7 @@ fn is_taken<R: Abort + AllocGlobal>(
 fn a_caller_is_named(rt: HostRuntime) -> Result<(), Fail> {
     is_called(&rt, &HELLO, &BANK, Ok(Some(200)))?;
     is_called(&rt, &HELLO, &[2; 32], Err(LinkFault::Hello))?;
-    is_called(&rt, &[0, 0, 0, 33], &BANK, Err(LinkFault::Hello))?;
+    is_called(&rt, &[0, 0, 0, 34], &BANK, Err(LinkFault::Hello))?;
     is_called(&rt, &[0, 0, 0, 0], &BANK, Err(LinkFault::Hello))
 }
 
@@ -91,7 +91,7 @@ fn a_cut_tag_is_waited_for<R: Abort + AllocGlobal>(rt: &R, link: &Link) -> Resul
 #[test]
 fn a_cut_hello_is_waited_for(rt: HostRuntime) -> Result<(), Fail> {
     let link = link(201, 200, KEY)?;
-    for end in 0..38 {
+    for end in 0..54 {
         is_waited_for(&rt, &HELLO[..end], &link)?;
     }
     a_cut_tag_is_waited_for(&rt, &link)
@@ -111,4 +111,23 @@ fn a_hello_of_another_is_told(rt: HostRuntime) -> Result<(), Fail> {
     tag[0] ^= 128;
     let link = link(201, 200, KEY)?;
     is_taken(&rt, &HELLO, &tag, &link, Err(LinkFault::Tag))
+}
+
+/// A call has no tag: it is taken as it is, with what its actor drew.
+#[test]
+fn a_call_is_taken(rt: HostRuntime) -> Result<(), Fail> {
+    let mut intake = intake_of(rt.alloc(), &HELLO, &[9])?;
+    assert!(rt; is_taken_as_a_call(&mut intake));
+    assert_eq!(rt; intake.bytes_left(), 1);
+    Ok(())
+}
+
+/// Whether a call of site 0 stands at the front. Where it does it is taken.
+fn is_taken_as_a_call(intake: &mut Intake) -> bool {
+    let Ok(Some(200)) = intake.caller(&BANK) else {
+        return false;
+    };
+    let nonce = intake.nonce();
+    intake.take_call();
+    nonce == NONCE
 }

@@ -132,6 +132,21 @@ fn tagged_pieces_are_found(rt: HostRuntime) -> Result<(), Fail> {
     is_found(&rt, &PING, &COMMIT_TAG, &link, ANOTHER_TAG)
 }
 
+/// What was recorded means nothing as a later text, over another stream, or sent back to who sent it.
+#[test]
+fn what_was_recorded_is_no_piece(rt: HostRuntime) -> Result<(), Fail> {
+    let link = link(201, 200, KEY)?;
+    let mut later = link;
+    later.advance();
+    is_found(&rt, &COMMIT, &COMMIT_TAG, &later, ANOTHER_TAG)?;
+    is_found(&rt, &COMMIT, &COMMIT_TAG, &link.over(&[5; 32]), ANOTHER_TAG)?;
+    sent_back(&rt)
+}
+
+fn sent_back<R: Abort + AllocGlobal>(rt: &R) -> Result<(), Fail> {
+    is_found(rt, &COMMIT, &COMMIT_TAG, &link(200, 201, KEY)?, ANOTHER_TAG)
+}
+
 /// The tag of the COMMIT with one bit of one byte altered.
 fn altered_tag(at: usize) -> [u8; 16] {
     let mut tag = COMMIT_TAG;
