@@ -219,8 +219,8 @@ class Book(Runs):
 
     def test_any_client_is_read_as_a_side(self):
         """A side and a member may be told by any client's name; the book refuses what is no member."""
-        lines = ["do ALFA instruct 1 OP USD 1 EUR 1", "do ALFA instruct 1 USD USD 1 EUR 1", "do USD fund USD 1 OP 5", "do USD fund USD 1 JPY 5"]
-        self.answers([(line, "no B2") for line in lines])
+        lines = "ALFA instruct 1 OP USD 1 EUR 1", "ALFA instruct 1 USD USD 1 EUR 1", "USD fund USD 1 OP 5", "USD fund USD 1 JPY 5"
+        self.answers([(f"do {line}", "no B2") for line in lines])
 
     def test_a_fault_is_told_and_nothing_printed(self):
         for setup, script, fault in [

@@ -1,65 +1,28 @@
 """Plays: what is printed of worked scripts, line by line, and that chaos keeps every account. Traces: each step with what came of
 it and what it sent."""
-import itertools
 import re
 
-from program import PLAY, SETUP, TRACE, Runs, adds_up, of_sites
-
-NEW_SITE = """normal view 0 log 0 done 0 cell 0
-  ALFA 0 0 0
-  BETA 0 0 0
-  pairs 0 0 0 0
-  figure 0 0 0
-  open 0
-"""
+from program import PLAY, TRACE, Runs, adds_up, books, delivers, of_sites
 
 # a pay-out is ordered of an account that is closed
-CLOSED = """payin ALFA USD 1200
-drain 100
-beat s0
-drain 100
-close ALFA USD
-do ALFA payout USD 200
-drain 100
-beat s0
-"""
+CLOSED = "payin ALFA USD 1200\ndrain 100\nbeat s0\ndrain 100\nclose ALFA USD\ndo ALFA payout USD 200\ndrain 100\nbeat s0\n"
 
 
 class Plays(Runs):
     def test_a_new_world(self):
-        sites = "".join(f"site {site} {NEW_SITE}" for site in range(3))
-        ways = "".join(f"  site {site} figure 0 way 0\n" for site in range(3))
-        nodes = "".join(f"node {code} account 0 payins 0 payouts 0\n{ways}" for code in ("EUR", "USD", "JPY"))
-        self.prints(PLAY, sites + nodes, script="print\n")
+        self.prints(PLAY, books(), script="print\n")
 
     def test_an_empty_play(self):
         self.prints(PLAY, "")
 
     def test_refused_steps(self):
-        script = """do ALFA payout USD 5
-do ALFA payout USD 6
-timer s9
-deliver 99
-cut @9
-heal s3
-payin ALFA USD 10001
-close ALFA USD
-close ALFA USD
-crash s1
-beat s1
-restart s0
-"""
-        text = """refused 2 G3
-refused 3 G2
-refused 4 G1
-refused 5 G2
-refused 6 G2
-refused 7 N1
-refused 9 N7
-refused 11 S3
-refused 12 S4
-"""
-        self.prints(PLAY, text, script=script)
+        steps = [
+            ("do ALFA payout USD 5", None), ("do ALFA payout USD 6", "G3"), ("timer s9", "G2"), ("deliver 99", "G1"), ("cut @9", "G2"),
+            ("heal s3", "G2"), ("payin ALFA USD 10001", "N1"), ("close ALFA USD", None), ("close ALFA USD", "N7"), ("crash s1", None),
+            ("beat s1", "S3"), ("restart s0", "S4"),
+        ]
+        refused = "".join(f"refused {line} {code}\n" for line, (_, code) in enumerate(steps, 1) if code)
+        self.prints(PLAY, refused, script="".join(f"{step}\n" for step, _ in steps))
 
     def test_faults(self):
         self.tells(PLAY, "fault line 1 L5\n", script="do USD payout USD 1")
@@ -67,22 +30,10 @@ refused 12 S4
         self.tells(PLAY, "fault line 2 L4\n", script="print\ntimer @200")
 
     def test_a_vote_binds_though_it_was_forgotten(self):
-        script = """timer s2
-timer s2
-crash s2
-restart s2
-deliver 5
-deliver 6
-deliver 7
-deliver 8
-deliver 4
-print
-payin ALFA USD 1
-deliver 9
-deliver 12
-deliver 14
-print
-"""
+        script = (
+            f"timer s2\ntimer s2\ncrash s2\nrestart s2\n{delivers(5, 6, 7, 8, 4)}print\npayin ALFA USD 1\n"
+            f"{delivers(9, 12, 14)}print\n"
+        )
         self.shows(PLAY, script, [
             "site 0 normal view 0 log 0 done 0 cell 0",
             "site 1 normal view 0 log 0 done 0 cell 0",
@@ -93,51 +44,16 @@ print
         ])
 
     def test_votes_of_an_earlier_boot_are_given_up(self):
-        script = """timer s1
-deliver 1
-deliver 5
-crash s0
-restart s0
-deliver 7
-deliver 2
-deliver 10
-print
-deliver 11
-print
-"""
-        self.shows(PLAY, script, [
-            "site 0 recovering cell 1",
-            "site 1 change view 1 log 0 done 0 cell 0",
-            "site 2 change view 1 log 0 done 0 cell 0",
-            "site 0 recovering cell 1",
-            "site 1 normal view 1 log 0 done 0 cell 0",
-            "site 2 change view 1 log 0 done 0 cell 0",
-        ])
+        script = f"timer s1\n{delivers(1, 5)}crash s0\nrestart s0\n{delivers(7, 2, 10)}print\n{delivers(11)}print\n"
+        others = ["site 0 recovering cell 1", "site 2 change view 1 log 0 done 0 cell 0"]
+        shown = [[others[0], f"site 1 {status} view 1 log 0 done 0 cell 0", others[1]] for status in ("change", "normal")]
+        self.shows(PLAY, script, [*shown[0], *shown[1]])
 
     def test_a_request_survives_the_primary(self):
-        script = """payin ALFA USD 500
-deliver 1
-crash s0
-timer s1
-deliver 7
-deliver 9
-deliver 10
-deliver 12
-beat USD
-deliver 14
-deliver 17
-deliver 18
-deliver 19
-beat s1
-deliver 21
-restart s0
-deliver 22
-deliver 23
-deliver 24
-deliver 25
-deliver 4
-print
-"""
+        script = (
+            f"payin ALFA USD 500\n{delivers(1)}crash s0\ntimer s1\n{delivers(7, 9, 10, 12)}beat USD\n"
+            f"{delivers(14, 17, 18, 19)}beat s1\n{delivers(21)}restart s0\n{delivers(22, 23, 24, 25, 4)}print\n"
+        )
         self.shows(PLAY, script, [
             "site 0 normal view 1 log 1 done 1 cell 1",
             "  ALFA 0 500 0",
@@ -150,21 +66,14 @@ print
         ])
 
     def test_an_order_comes_back_from_a_closed_account(self):
-        script = f"""{CLOSED}print
-drain 100
-deliver 21
-beat s0
-drain 100
-print
-payin ALFA USD 1
-"""
-        books = [[f"site {site} normal view 0 log 3 done 3 cell 0", "  ALFA 0 1200 0", "  open 0"] for site in range(3)]
+        script = f"{CLOSED}print\ndrain 100\n{delivers(21)}beat s0\ndrain 100\nprint\npayin ALFA USD 1\n"
+        books = [line for site in range(3) for line in (f"site {site} normal view 0 log 3 done 3 cell 0", "  ALFA 0 1200 0", "  open 0")]
         self.shows(PLAY, script, [
             "node USD account 1200 payins 1 payouts 0",
             "  site 0 figure 1000 way 200",
             "  site 1 figure 1200 way 0",
             "  site 2 figure 1200 way 0",
-            *itertools.chain(*books),
+            *books,
             "node USD account 1200 payins 1 payouts 0 returned 1",
             "  site 0 figure 1200 way 0",
             "  site 1 figure 1200 way 0",
@@ -175,30 +84,12 @@ payin ALFA USD 1
 
     def test_a_return_survives_the_primary(self):
         """The primary crashes between the order's return and the bank's word of it; the next primary credits the member once."""
-        script = f"""{CLOSED}deliver 21
-crash s0
-drain 100
-timer s1
-drain 100
-beat USD
-drain 100
-beat s1
-drain 100
-print
-"""
-        self.shows(PLAY, script, [
-            "site 0 down cell 0",
-            "site 1 normal view 1 log 3 done 3 cell 0",
-            "  ALFA 0 1200 0",
-            "  open 0",
-            "site 2 normal view 1 log 3 done 3 cell 0",
-            "  ALFA 0 1200 0",
-            "  open 0",
-            "node USD account 1200 payins 1 payouts 0 returned 1",
-            "  site 1 figure 1200 way 0",
-            "  site 2 figure 1200 way 0",
-            "client ALFA 1 order 1",
-        ])
+        turns = "".join(f"drain 100\n{it}\n" for it in ("timer s1", "beat USD", "beat s1"))
+        script = f"{CLOSED}deliver 21\ncrash s0\n{turns}drain 100\nprint\n"
+        sites = [line for site in (1, 2) for line in (f"site {site} normal view 1 log 3 done 3 cell 0", "  ALFA 0 1200 0", "  open 0")]
+        ways = [f"  site {site} figure 1200 way 0" for site in (1, 2)]
+        node = "node USD account 1200 payins 1 payouts 0 returned 1"
+        self.shows(PLAY, script, ["site 0 down cell 0", *sites, node, *ways, "client ALFA 1 order 1"])
 
     def test_chaos_keeps_every_account(self):
         script = "chaos 7 1000\nprint\nchaos 8 1000\nprint\n"
@@ -334,7 +225,8 @@ skip 10
     def test_a_turn_of_a_drain_passes_over_what_a_cut_holds_back(self):
         """The first drain ends at the one that it delivers; the second finds only held ones."""
         script = "do ALFA payout USD 5\ncut s0\ndrain 1\ncut s2\ndrain 1\ndrain 1\n"
-        self.shows(TRACE, script, ["cut s0", "2  deliver 2 to s1, REQUEST: dropped, another site is the primary", "held back by a cut: 1", "cut s2", "held back by a cut: 3"])
+        dropped = "2  deliver 2 to s1, REQUEST: dropped, another site is the primary"
+        self.shows(TRACE, script, ["cut s0", dropped, "held back by a cut: 1", "cut s2", "held back by a cut: 3"])
 
     def test_faults(self):
         self.tells(TRACE, "fault line 2 L5\n", script="beat s0\ndo USD payout USD 1")

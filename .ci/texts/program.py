@@ -32,6 +32,26 @@ def of_sites(count):
     return SETUP.replace('"sites":3', f'"sites":{count}')
 
 
+NEW_BOOK = "  ALFA 0 0 0\n  BETA 0 0 0\n  pairs 0 0 0 0\n  figure 0 0 0\n  open 0\n"
+NEW_SITE = f"normal view 0 log 0 done 0 cell 0\n{NEW_BOOK}"
+
+
+def books(sites=None, paid=0, figure=0):
+    """What `print` prints of a bank that is new but for these sites, by their numbers, with what is told of each, and for so much that was
+    paid in at the node of USD, of which each site that runs has this figure."""
+    told = [(sites or {}).get(site, NEW_SITE) for site in range(3)]
+    text = "".join(f"site {site} {it}" for site, it in enumerate(told))
+    for code, account, known in ("EUR", 0, 0), ("USD", paid, figure), ("JPY", 0, 0):
+        text += f"node {code} account {account} payins {int(account > 0)} payouts 0\n"
+        text += "".join(f"  site {site} figure {known} way {account - known}\n" for site, it in enumerate(told) if it.startswith("normal"))
+    return text
+
+
+def delivers(*numbers):
+    """The lines of a script that deliver these envelopes."""
+    return "".join(f"deliver {it}\n" for it in numbers)
+
+
 def adds_up(text):
     """Whether each printed site's figure and way come to the account above it; and there is one."""
     account, seen = 0, False
