@@ -35,19 +35,16 @@ class Plays(Runs):
             f"{delivers(9, 12, 14)}print\n"
         )
         self.shows(PLAY, script, [
-            "site 0 normal view 0 log 0 done 0 cell 0",
-            "site 1 normal view 0 log 0 done 0 cell 0",
-            "site 2 normal view 0 log 0 done 0 cell 1",
-            "site 0 normal view 0 log 1 done 1 cell 0",
-            "site 1 normal view 0 log 1 done 0 cell 0",
-            "site 2 normal view 0 log 0 done 0 cell 1",
+            "site 0 normal view 0 log 0 done 0 cell 0", "site 1 normal view 0 log 0 done 0 cell 0", "site 2 normal view 0 log 0 done 0 cell 1",
+            "site 0 normal view 0 log 1 done 1 cell 0", "site 1 normal view 0 log 1 done 0 cell 0", "site 2 normal view 0 log 0 done 0 cell 1",
         ])
 
     def test_votes_of_an_earlier_boot_are_given_up(self):
         script = f"timer s1\n{delivers(1, 5)}crash s0\nrestart s0\n{delivers(7, 2, 10)}print\n{delivers(11)}print\n"
-        others = ["site 0 recovering cell 1", "site 2 change view 1 log 0 done 0 cell 0"]
-        shown = [[others[0], f"site 1 {status} view 1 log 0 done 0 cell 0", others[1]] for status in ("change", "normal")]
-        self.shows(PLAY, script, [*shown[0], *shown[1]])
+        self.shows(PLAY, script, [
+            "site 0 recovering cell 1", "site 1 change view 1 log 0 done 0 cell 0", "site 2 change view 1 log 0 done 0 cell 0",
+            "site 0 recovering cell 1", "site 1 normal view 1 log 0 done 0 cell 0", "site 2 change view 1 log 0 done 0 cell 0",
+        ])
 
     def test_a_request_survives_the_primary(self):
         script = (
