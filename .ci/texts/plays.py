@@ -34,9 +34,10 @@ class Plays(Runs):
             f"timer s2\ntimer s2\ncrash s2\nrestart s2\n{delivers(5, 6, 7, 8, 4)}print\npayin ALFA USD 1\n"
             f"{delivers(9, 12, 14)}print\n"
         )
+        new = "normal view 0 log 0 done 0 cell"
         self.shows(PLAY, script, [
-            "site 0 normal view 0 log 0 done 0 cell 0", "site 1 normal view 0 log 0 done 0 cell 0", "site 2 normal view 0 log 0 done 0 cell 1",
-            "site 0 normal view 0 log 1 done 1 cell 0", "site 1 normal view 0 log 1 done 0 cell 0", "site 2 normal view 0 log 0 done 0 cell 1",
+            f"site 0 {new} 0", f"site 1 {new} 0", f"site 2 {new} 1",
+            "site 0 normal view 0 log 1 done 1 cell 0", "site 1 normal view 0 log 1 done 0 cell 0", f"site 2 {new} 1",
         ])
 
     def test_votes_of_an_earlier_boot_are_given_up(self):
