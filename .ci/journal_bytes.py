@@ -4,6 +4,10 @@ from the one before.
 import hashlib
 import struct
 
+# the tags of events: those of an envelope that came, and of others how many bytes stand behind the tag
+DELIVERIES = 1, 6, 10
+LENGTHS = {2: 0, 3: 0, 4: 0, 5: 0, 7: 0, 8: 10, 9: 2, 11: 0}
+
 
 def checksum(before, text):
     """The checksum of what stands behind this one."""
@@ -34,3 +38,10 @@ def parts(text):
         bodies.append(text[at + 8 : at + 8 + length])
         at += 16 + length
     return head, bodies
+
+
+def outcome_in(body):
+    """Where the outcome stands in a record; nothing where it has an event of which that is not told here."""
+    if body[8] in DELIVERIES:
+        return 13 + struct.unpack_from(">I", body, 9)[0]
+    return 9 + LENGTHS[body[8]] if body[8] in LENGTHS else None

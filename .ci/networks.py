@@ -159,3 +159,22 @@ class Wires:
         self.run(ended())
         self.loop.call_soon_threadsafe(self.loop.stop)
         self.thread.join(10)
+
+
+def in_rooms(bank):
+    """Each site stands in a room of its own, and all others in the one between them."""
+    bank.net = Rooms(len(bank.sites))
+    bank.peers = bank.write_peers("peers", [f"{Rooms.host(at)}:{Rooms.PORT}" for at in range(len(bank.sites))])
+    for it in bank.all:
+        room = bank.net.sites[bank.sites.index(it)] if it in bank.sites else bank.net.hall
+        it.place = Rooms.words(room)
+
+
+def over_wires(bank):
+    """Whoever dials a site does it over a wire of its own."""
+    bank.net = Wires()
+    for it in bank.all:
+        # a site dials those before it
+        dialed = bank.sites[: bank.sites.index(it)] if it in bank.sites else bank.sites
+        ports = [bank.net.wire(it.name, f"s{at}", port) if bank.sites[at] in dialed else port for at, port in enumerate(bank.ports)]
+        it.peers = bank.write_peers(f"{it.name}.peers", [f"127.0.0.1:{port}" for port in ports])
