@@ -2,7 +2,7 @@
 it and what it sent."""
 import re
 
-from program import PLAY, TRACE, Runs, adds_up, books, delivers, of_sites
+from program import PLAY, TRACE, Runs, adds_up, books, delivers, node, of_sites
 
 # a pay-out is ordered of an account that is closed
 CLOSED = "payin ALFA USD 1200\ndrain 100\nbeat s0\ndrain 100\nclose ALFA USD\ndo ALFA payout USD 200\ndrain 100\nbeat s0\n"
@@ -30,10 +30,7 @@ class Plays(Runs):
         self.tells(PLAY, "fault line 2 L4\n", script="print\ntimer @200")
 
     def test_a_vote_binds_though_it_was_forgotten(self):
-        script = (
-            f"timer s2\ntimer s2\ncrash s2\nrestart s2\n{delivers(5, 6, 7, 8, 4)}print\npayin ALFA USD 1\n"
-            f"{delivers(9, 12, 14)}print\n"
-        )
+        script = f"timer s2\ntimer s2\ncrash s2\nrestart s2\n{delivers(5, 6, 7, 8, 4)}print\npayin ALFA USD 1\n{delivers(9, 12, 14)}print\n"
         new = "normal view 0 log 0 done 0 cell"
         self.shows(PLAY, script, [
             f"site 0 {new} 0", f"site 1 {new} 0", f"site 2 {new} 1",
@@ -57,25 +54,16 @@ class Plays(Runs):
             "  ALFA 0 500 0",
             "site 1 normal view 1 log 1 done 1 cell 0",
             "site 2 normal view 1 log 1 done 1 cell 0",
-            "node USD account 500 payins 1 payouts 0",
-            "  site 0 figure 500 way 0",
-            "  site 1 figure 500 way 0",
-            "  site 2 figure 500 way 0",
+            *node("USD account 500 payins 1 payouts 0", 500, 500, 500),
         ])
 
     def test_an_order_comes_back_from_a_closed_account(self):
         script = f"{CLOSED}print\ndrain 100\n{delivers(21)}beat s0\ndrain 100\nprint\npayin ALFA USD 1\n"
-        books = [line for site in range(3) for line in (f"site {site} normal view 0 log 3 done 3 cell 0", "  ALFA 0 1200 0", "  open 0")]
+        sites = [line for site in range(3) for line in (f"site {site} normal view 0 log 3 done 3 cell 0", "  ALFA 0 1200 0", "  open 0")]
         self.shows(PLAY, script, [
-            "node USD account 1200 payins 1 payouts 0",
-            "  site 0 figure 1000 way 200",
-            "  site 1 figure 1200 way 0",
-            "  site 2 figure 1200 way 0",
-            *books,
-            "node USD account 1200 payins 1 payouts 0 returned 1",
-            "  site 0 figure 1200 way 0",
-            "  site 1 figure 1200 way 0",
-            "  site 2 figure 1200 way 0",
+            *node("USD account 1200 payins 1 payouts 0", 1000, 1200, 1200),
+            *sites,
+            *node("USD account 1200 payins 1 payouts 0 returned 1", 1200, 1200, 1200),
             "client ALFA 1 order 1",
             "refused 15 N7",
         ])
@@ -85,9 +73,8 @@ class Plays(Runs):
         turns = "".join(f"drain 100\n{it}\n" for it in ("timer s1", "beat USD", "beat s1"))
         script = f"{CLOSED}deliver 21\ncrash s0\n{turns}drain 100\nprint\n"
         sites = [line for site in (1, 2) for line in (f"site {site} normal view 1 log 3 done 3 cell 0", "  ALFA 0 1200 0", "  open 0")]
-        ways = [f"  site {site} figure 1200 way 0" for site in (1, 2)]
-        node = "node USD account 1200 payins 1 payouts 0 returned 1"
-        self.shows(PLAY, script, ["site 0 down cell 0", *sites, node, *ways, "client ALFA 1 order 1"])
+        told = node("USD account 1200 payins 1 payouts 0 returned 1", None, 1200, 1200)
+        self.shows(PLAY, script, ["site 0 down cell 0", *sites, *told, "client ALFA 1 order 1"])
 
     def test_chaos_keeps_every_account(self):
         script = "chaos 7 1000\nprint\nchaos 8 1000\nprint\n"

@@ -36,15 +36,22 @@ NEW_BOOK = "  ALFA 0 0 0\n  BETA 0 0 0\n  pairs 0 0 0 0\n  figure 0 0 0\n  open 
 NEW_SITE = f"normal view 0 log 0 done 0 cell 0\n{NEW_BOOK}"
 
 
+def node(told, *figures):
+    """The lines of a node of which this is told, with the figure of each site that runs; what it lacks of the account is on the way."""
+    account = int(told.split()[2])
+    ways = (f"  site {site} figure {it} way {account - it}" for site, it in enumerate(figures) if it is not None)
+    return [f"node {told}", *ways]
+
+
 def books(sites=None, paid=0, figure=0):
     """What `print` prints of a bank that is new but for these sites, by their numbers, with what is told of each, and for so much that was
     paid in at the node of USD, of which each site that runs has this figure."""
     told = [(sites or {}).get(site, NEW_SITE) for site in range(3)]
-    text = "".join(f"site {site} {it}" for site, it in enumerate(told))
+    nodes = []
     for code, account, known in ("EUR", 0, 0), ("USD", paid, figure), ("JPY", 0, 0):
-        text += f"node {code} account {account} payins {int(account > 0)} payouts 0\n"
-        text += "".join(f"  site {site} figure {known} way {account - known}\n" for site, it in enumerate(told) if it.startswith("normal"))
-    return text
+        figures = [known if it.startswith("normal") else None for it in told]
+        nodes += node(f"{code} account {account} payins {int(account > 0)} payouts 0", *figures)
+    return "".join(f"site {site} {it}" for site, it in enumerate(told)) + "".join(f"{line}\n" for line in nodes)
 
 
 def delivers(*numbers):

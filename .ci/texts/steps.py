@@ -2,7 +2,7 @@
 is not taken."""
 import re
 
-from program import NEW_BOOK, PLAY, TRACE, Runs, books, delivers, of_sites
+from program import NEW_BOOK, PLAY, TRACE, Runs, books, delivers, node, of_sites
 
 # a pay-in that reaches every book
 PAID_IN = f"payin ALFA USD 1200\n{delivers(*range(1, 9))}beat s0\n{delivers(9, 10)}"
@@ -151,8 +151,7 @@ class Steps(Runs):
         self.shows(PLAY, f"{PAID_IN}{5 * delivers(1, 2, 3)}print\n{delivers(15, 16)}", [
             "site 0 normal view 0 log 1 done 1 cell 0",
             "  ALFA 0 1200 0",
-            "node USD account 1200 payins 1 payouts 0",
-            "  site 0 figure 1200 way 0",
+            *node("USD account 1200 payins 1 payouts 0", 1200),
             "refused 30 G1",
         ])
 
@@ -173,26 +172,15 @@ class Steps(Runs):
     def test_a_payment_is_ordered_and_done_once(self):
         """The order is in the primary's book alone at first; its envelope comes a second time."""
         self.shows(PLAY, f"{ORDERED}print\n{delivers(*range(19, 30), 21)}print\n", [
-            "node USD account 1200 payins 1 payouts 0",
-            "  site 0 figure 1000 way 200",
-            "  site 1 figure 1200 way 0",
+            *node("USD account 1200 payins 1 payouts 0", 1000, 1200),
             "client ALFA 1 order 1",
-            "site 0 normal view 0 log 3 done 3 cell 0",
-            "site 1 normal view 0 log 3 done 2 cell 0",
-            "site 2 normal view 0 log 3 done 2 cell 0",
-            "node USD account 1000 payins 1 payouts 1",
-            "  site 0 figure 1000 way 0",
-            "  site 1 figure 1000 way 0",
-            "  site 2 figure 1000 way 0",
+            *(f"site {site} normal view 0 log 3 done {done} cell 0" for site, done in enumerate((3, 2, 2))),
+            *node("USD account 1000 payins 1 payouts 1", 1000, 1000, 1000),
         ])
 
     def test_an_order_and_its_payment_are_told(self):
-        self.shows(TRACE, f"{ORDERED}deliver 21\n", [
-            "22  beat s0",
-            "   21  s0 -> USD  PAYORDER USD 1 ALFA 200",
-            "23  deliver 21 to USD, PAYORDER",
-            "   22  USD -> s0  REQUEST 2 paid USD 1",
-        ])
+        ordered = ["22  beat s0", "   21  s0 -> USD  PAYORDER USD 1 ALFA 200"]
+        self.shows(TRACE, f"{ORDERED}deliver 21\n", [*ordered, "23  deliver 21 to USD, PAYORDER", "   22  USD -> s0  REQUEST 2 paid USD 1"])
 
     def test_an_order_that_is_returned_is_told(self):
         told = ["24  deliver 21 to USD, PAYORDER", "   22  USD -> s0  REQUEST 2 returned USD 1"]
