@@ -40,6 +40,18 @@ def parts(text):
     return head, bodies
 
 
+def read(path):
+    """The head of the journal in a file, and what each of its records says: a clock of eight bytes, the event and the outcome."""
+    with open(path, "rb") as file:
+        return parts(file.read())
+
+
+def write(path, head, bodies):
+    """Writes a journal with checksums that fit."""
+    with open(path, "wb") as file:
+        file.write(journal(head, bodies))
+
+
 def outcome_in(body):
     """Where the outcome stands in a record; nothing where it has an event of which that is not told here."""
     if body[8] in DELIVERIES:

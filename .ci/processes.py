@@ -9,7 +9,7 @@ import subprocess
 import threading
 import time
 
-from books import blocks_of
+from books import judged
 from power import Machine
 from shared import PROGRAM, ROOT, ran, read, shim
 
@@ -205,10 +205,9 @@ class Bank:
     def is_judged(self, *words):
         """Demands that the journals are judged yes, with books that add up and do not differ."""
         status, text, told = self.audit(*words)
-        demand(status == 0 and text.endswith("audit yes\n"), f"the audit ended with {status}: {text[-200:]!r} {told[-200:]!r}")
-        blocks, wrong = blocks_of(text.removesuffix("audit yes\n"))
-        demand(len(blocks) == 1 and not wrong, f"the books do not add up: {wrong[:1]}")
-        return blocks[0]
+        block, wrong = judged(text)
+        demand(status == 0 and not wrong, f"the audit ended with {status}: {wrong[:1]}, and told {told[-200:]!r}")
+        return block
 
     def is_judged_no(self, line):
         """Demands that the journals are judged so."""
