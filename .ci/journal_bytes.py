@@ -1,5 +1,5 @@
 """Journals byte by byte, as the page that describes them has it: a head, and behind it records, each with a checksum that goes on
-from the one before.
+from the one before; and the frames that a record may have.
 """
 import hashlib
 import struct
@@ -50,6 +50,12 @@ def write(path, head, bodies):
     """Writes a journal with checksums that fit."""
     with open(path, "wb") as file:
         file.write(journal(head, bodies))
+
+
+def frame(kind, actor, clock, to, body, place=0):
+    """A frame of the envelope that an actor sent at a clock, of so many before it."""
+    text = struct.pack(">BBHQIH", 2, kind, actor, clock, place, to) + body
+    return struct.pack(">I", len(text)) + text
 
 
 def outcome_in(body):

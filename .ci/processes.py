@@ -10,6 +10,7 @@ import threading
 import time
 
 from books import judged
+from journal_bytes import frame
 from power import Machine
 from shared import PROGRAM, ROOT, ran, read, shim
 
@@ -186,8 +187,9 @@ class Bank:
             it.start()
         return self
 
-    def stop(self):
-        """Ends all terminals, those of clients first, so that what they wait for still comes."""
+    def stop(self, rest=0.0):
+        """Ends all terminals after this rest, those of clients first, so that what they wait for still comes."""
+        time.sleep(rest)
         for it in [*self.clients.values(), *self.nodes.values(), *self.sites]:
             if it.process and it.process.poll() is None:
                 demand(it.ends() == 0, f"{it.name} ended with another status than 0, and told {it.told[-1:]}")
@@ -216,8 +218,7 @@ class Bank:
 
     def ends(self, rest=0.5):
         """Ends once after this rest nothing is on the way, and demands that it is judged yes."""
-        time.sleep(rest)
-        self.stop()
+        self.stop(rest)
         return self.is_judged()
 
     def ends_level(self, rest=0.5):
@@ -239,15 +240,9 @@ def latest_view(*sites):
 # --- What strangers send ----------------------------------------------------------------------------------------------
 
 
-def frame_of(actor, clock, to, body=b"\0" * 8, place=0):
-    """A frame that says to be of this actor."""
-    text = struct.pack(">BBHQIH", 2, 1, actor, clock, place, to) + body
-    return struct.pack(">I", len(text)) + text
-
-
 def request_of(actor, clock, to, number):
     """A REQUEST with a rescission, stamped so."""
-    return frame_of(actor, clock, to, struct.pack(">IBI", number, 2, 1))
+    return frame(1, actor, clock, to, struct.pack(">IBI", number, 2, 1))
 
 
 def hello_of(journal, actor):

@@ -9,6 +9,7 @@ from typing import NamedTuple
 sys.path.append(os.path.join(os.path.dirname(os.path.abspath(__file__)), ".."))
 
 import journal_bytes  # noqa: E402
+from journal_bytes import frame  # noqa: E402
 from program import FOUR_SITES, NEW_SITE, SETUP, Runs, books  # noqa: E402
 
 LIFE = bytes(range(16))
@@ -50,12 +51,6 @@ def node_refused(number):
 
 def fell(number, boots):
     return bytes([3, number]) + struct.pack(">I", boots)
-
-
-def frame(kind, actor, clock, to, body, place=0):
-    """A frame of the envelope that an actor sent at a clock, of so many before it."""
-    text = struct.pack(">BBHQIH", 2, kind, actor, clock, place, to) + body
-    return struct.pack(">I", len(text)) + text
 
 
 def funds(amount):
@@ -128,7 +123,7 @@ class Journals(Audits):
 
     def test_a_bank_that_did_nothing(self):
         """In whatever order its journals stand, and as a script."""
-        for order in (None, [name(actor) for actor in reversed(ALL)]):
+        for order in None, [name(actor) for actor in reversed(ALL)]:
             self.audits(self.bank(), (0, f"{books()}audit yes\n", ""), order=order)
         self.says_yes(self.bank(), "")
 
@@ -146,10 +141,9 @@ class Journals(Audits):
     def test_sites_that_fell(self):
         """Site 1 crashes, and as it restarts its cell does not save: it holds the new count, or the old one. It cannot hold another, nor
         is this how it falls while it is down already."""
-        for boots, then in (1, 2), (0, 1):
+        for boots in 1, 0:
             files = self.bank({201: self.journal(201, CRASHED, (6, RESTART, fell(2, boots)), (7, BEAT, b"\2\3"))})
-            shown = books({1: f"down cell {boots}\n"})
-            self.audits(files, (0, f"{shown}audit yes\n", ""))
+            self.audits(files, (0, books({1: f"down cell {boots}\n"}) + "audit yes\n", ""))
         for event, outcome in (RESTART, fell(2, 2)), (RESTART, fell(3, 1)), (BEAT, fell(1, 0)):
             self.says_no(self.bank({201: self.journal(201, CRASHED, (6, event, outcome))}), "audit no 201 2 A3\n")
 
@@ -195,15 +189,13 @@ class Journals(Audits):
         self.says_no(forged, "audit no 201 2 A1\n", "--cut")
         # nor is a sender cut that has what came
         self.says_yes(self.paid_in(), "payin ALFA USD 100\ndeliver 1\n", "", "--cut")
-        told = "s0: 1 of 1 events are cut off\n"
-        self.says_yes({**self.paid_in(), name(102): self.journal(102)}, "", told, "--cut")
+        self.says_yes({**self.paid_in(), name(102): self.journal(102)}, "", "s0: 1 of 1 events are cut off\n", "--cut")
 
     def test_a_torn_record_is_told(self):
         """Its bytes are a front of a record, which is left out."""
         whole = self.journal(201, CRASHED)
-        for left in (len(whole) - 1, len(head(201)) + 1):
-            told = f"journal 8 is torn at byte {len(head(201))}\n"
-            self.says_yes(self.bank({201: whole[:left]}), "", told)
+        for left in len(whole) - 1, len(head(201)) + 1:
+            self.says_yes(self.bank({201: whole[:left]}), "", f"journal 8 is torn at byte {len(head(201))}\n")
 
     def test_damaged_journals(self):
         whole = self.journal(201, CRASHED, (6, TIMER, SENT_NOTHING))
@@ -264,11 +256,11 @@ class FirstJournals(Journals):
 
     def test_what_was_sent_by_another(self):
         """Each envelope that was sent has the stamp of its record."""
-        wrong = [funds(100)[1:], (frame(1, 102, 2, 200, funds(100)[0][22:]),), (frame(1, 101, 1, 200, funds(100)[0][22:]),)]
-        for sent in wrong:
+        row = funds(100)[0][22:]
+        for sent in funds(100)[1:], (frame(1, 102, 2, 200, row),), (frame(1, 101, 1, 200, row),):
             text = self.journal(102, (1, payin(1, 100), Sent(sent)))
-            fault = f"fault journal 5 M6 {len(head(102))}\n"
-            self.faults(self.bank({102: text}), fault, f'journal "102.journal": {SAYS_NOTHING}\n')
+            why = f'journal "102.journal": {SAYS_NOTHING}\n'
+            self.faults(self.bank({102: text}), f"fault journal 5 M6 {len(head(102))}\n", why)
 
 
 class MixedJournals(Audits):
