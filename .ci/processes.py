@@ -237,6 +237,24 @@ def latest_view(*sites):
     return max((int(line.split()[2]) for it in sites for line in it.told if " view " in line), default=0)
 
 
+def size_of(actor):
+    """How many bytes an actor's journal has."""
+    return actor.journal.stat().st_size
+
+
+def passes_over(bank, client, seconds, *words):
+    """Kills the primary, and starts it again once the client has its next answer. Answers after how many seconds that came, and by how
+    many bytes each site's journal has grown when the one that was killed is normal again."""
+    primary = bank.sites[latest_view(*bank.sites) % len(bank.sites)]
+    before, began = [size_of(it) for it in bank.sites], time.monotonic()
+    primary.kill()
+    client.asks("rescind 1", seconds=seconds)
+    took = time.monotonic() - began
+    primary.restart(*words)
+    primary.waits_for(lambda it: stands_of(it)[-1:] == ["normal"] and latest_view(it), "normal view", 120)
+    return took, [size_of(it) - was for it, was in zip(bank.sites, before)]
+
+
 # --- What strangers send ----------------------------------------------------------------------------------------------
 
 
