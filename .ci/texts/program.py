@@ -83,15 +83,16 @@ class Runs(unittest.TestCase):
         if self.most_files:
             resource.setrlimit(resource.RLIMIT_NOFILE, (self.most_files, self.most_files))
 
-    def run_on(self, words, setup=SETUP, script="", files=None):
-        """The status of a run, what it printed and what it told; in the folder stand these files too, by their names."""
+    def run_on(self, words, setup=SETUP, script="", files=None, out=subprocess.PIPE):
+        """The status of a run, what it printed, where that goes nowhere else, and what it told; in the folder stand these files too."""
         texts = {"setup.json": setup.encode(), "script.txt": script.encode(), **(files or {})}
         with tempfile.TemporaryDirectory() as folder:
             for name, text in texts.items():
                 with open(os.path.join(folder, name), "wb") as file:
                     file.write(text)
-            ran = subprocess.run([PROGRAM, *words], cwd=folder, stdin=subprocess.DEVNULL, capture_output=True, timeout=120, preexec_fn=self.limit)
-        return ran.returncode, ran.stdout.decode(), ran.stderr.decode()
+            how = {"stdin": subprocess.DEVNULL, "stdout": out, "stderr": subprocess.PIPE, "timeout": 120, "preexec_fn": self.limit}
+            ran = subprocess.run([PROGRAM, *words], cwd=folder, **how)
+        return ran.returncode, (ran.stdout or b"").decode(), ran.stderr.decode()
 
     def ends(self, words, want, setup=SETUP, script=""):
         """Runs the program, and compares its status, what it printed and what it told."""
@@ -124,13 +125,6 @@ class Runs(unittest.TestCase):
             status, text, said = self.run_on(words, setup, script)
             self.assertEqual((status, text), (2, ""))
             self.assertIn(told, said)
-
-    def helps(self, words, text):
-        """Runs the program on words that ask for help or for the version: printed, with status 2 too."""
-        with self.subTest(words=words):
-            status, printed, said = self.run_on(words)
-            self.assertEqual((status, said), (2, ""))
-            self.assertIn(text, printed)
 
 
 BOOK = ["book", "setup.json", "script.txt"]
