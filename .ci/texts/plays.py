@@ -2,7 +2,7 @@
 it and what it sent."""
 import re
 
-from program import PLAY, TRACE, Runs, adds_up, books, delivers, node, of_sites
+from program import PLAY, TRACE, Runs, adds_up, books, delivers, node, of_sites, sent
 
 # a pay-out is ordered of an account that is closed
 CLOSED = "payin ALFA USD 1200\ndrain 100\nbeat s0\ndrain 100\nclose ALFA USD\ndo ALFA payout USD 200\ndrain 100\nbeat s0\n"
@@ -134,17 +134,14 @@ heal s7
 
 # Site 1 asks by its second count, as the first was saved though it fell; the turns of a drain are steps; envelope 3 is skipped, and
 # the one to the site that is cut off is held back.
-TRACED = """refused 1 G2
+TRACED = f"""refused 1 G2
 1  deliver 1: G1, no envelope has this number
 2  do ALFA payout USD 5
-   1  ALFA -> s0  REQUEST 1 payout USD 5
-   2  ALFA -> s1  REQUEST 1 payout USD 5
-   3  ALFA -> s2  REQUEST 1 payout USD 5
+{sent(1, "ALFA", "s0 s1 s2", "REQUEST 1 payout USD 5")}
 3  do ALFA payout USD 6: G3, the client still waits for an answer
 4  deliver 2 to s1, REQUEST: dropped, another site is the primary
 5  deliver 1 to s0, REQUEST
-   4  s0 -> s1  PREPARE view 0 place 1 done 0 row ALFA 1 payout USD 5
-   5  s0 -> s2  PREPARE view 0 place 1 done 0 row ALFA 1 payout USD 5
+{sent(4, "s0", "s1 s2", "PREPARE view 0 place 1 done 0 row ALFA 1 payout USD 5")}
 6  crash s1
    s1 is down
 7  deliver 4 to s1, PREPARE: S3, the site is down
@@ -154,8 +151,7 @@ TRACED = """refused 1 G2
 11  payin ALFA USD 10001: N1, the account that pays is short
 12  restart s1
    s1 is recovering
-   6  s1 -> s0  RECOVERY nonce 2
-   7  s1 -> s2  RECOVERY nonce 2
+{sent(6, "s1", "s0 s2", "RECOVERY nonce 2")}
 13  deliver 1 to s0, REQUEST: dropped, the site has it already
 14  deliver 2 to s1, REQUEST: dropped, the site's status takes no part in it
 skip 3
@@ -180,15 +176,12 @@ class Traces(Runs):
         """Site 1 is cut off as its REQUEST is next; a drain to the end finds it and the PREPARE to it. Of the three REQUESTs of BETA
         two are skipped, and more than there is are passed over to the end."""
         script = "do ALFA payout USD 5\ncut s1\ncut s1\ndrain 9\nheal s1\nheal s1\ndo BETA payout USD 5\nskip 2\nskip 9\nskip 9\ndrain 9\n"
-        self.prints(TRACE, """1  do ALFA payout USD 5
-   1  ALFA -> s0  REQUEST 1 payout USD 5
-   2  ALFA -> s1  REQUEST 1 payout USD 5
-   3  ALFA -> s2  REQUEST 1 payout USD 5
+        self.prints(TRACE, f"""1  do ALFA payout USD 5
+{sent(1, "ALFA", "s0 s1 s2", "REQUEST 1 payout USD 5")}
 cut s1
 cut s1
 2  deliver 1 to s0, REQUEST
-   4  s0 -> s1  PREPARE view 0 place 1 done 0 row ALFA 1 payout USD 5
-   5  s0 -> s2  PREPARE view 0 place 1 done 0 row ALFA 1 payout USD 5
+{sent(4, "s0", "s1 s2", "PREPARE view 0 place 1 done 0 row ALFA 1 payout USD 5")}
 3  deliver 3 to s2, REQUEST: dropped, another site is the primary
 4  deliver 5 to s2, PREPARE
    6  s2 -> s0  PREPAREOK view 0 place 1
@@ -200,9 +193,7 @@ held back by a cut: 2, 4
 heal s1
 heal s1
 7  do BETA payout USD 5
-   8  BETA -> s0  REQUEST 1 payout USD 5
-   9  BETA -> s1  REQUEST 1 payout USD 5
-   10  BETA -> s2  REQUEST 1 payout USD 5
+{sent(8, "BETA", "s0 s1 s2", "REQUEST 1 payout USD 5")}
 skip 8 to 9
 skip 10
 """, script=script)

@@ -59,6 +59,11 @@ def delivers(*numbers):
     return "".join(f"deliver {it}\n" for it in numbers)
 
 
+def sent(first, sender, receivers, message):
+    """The lines of a trace that tell of one message to each of these, numbered from the first."""
+    return "\n".join(f"   {number}  {sender} -> {it}  {message}" for number, it in enumerate(receivers.split(), first))
+
+
 def adds_up(text):
     """Whether each printed site's figure and way come to the account above it; and there is one."""
     account, seen = 0, False

@@ -2,7 +2,7 @@
 is not taken."""
 import re
 
-from program import NEW_BOOK, PLAY, TRACE, Runs, books, delivers, node, of_sites
+from program import NEW_BOOK, PLAY, TRACE, Runs, books, delivers, node, of_sites, sent
 
 # a pay-in that reaches every book
 PAID_IN = f"payin ALFA USD 1200\n{delivers(*range(1, 9))}beat s0\n{delivers(9, 10)}"
@@ -14,12 +14,9 @@ OF_ALFA = "ALFA 1 instruct 5 BETA EUR 100 USD 200"
 
 # a trade, a view change in which both new logs are compared, a recovery, and a site that asks for what it lacks
 CHANGE = f"""1  do ALFA instruct 5 BETA EUR 100 USD 200
-   1  ALFA -> s0  REQUEST 1 instruct 5 BETA EUR 100 USD 200
-   2  ALFA -> s1  REQUEST 1 instruct 5 BETA EUR 100 USD 200
-   3  ALFA -> s2  REQUEST 1 instruct 5 BETA EUR 100 USD 200
+{sent(1, "ALFA", "s0 s1 s2", "REQUEST 1 instruct 5 BETA EUR 100 USD 200")}
 2  deliver 1 to s0, REQUEST
-   4  s0 -> s1  PREPARE view 0 place 1 done 0 row {OF_ALFA}
-   5  s0 -> s2  PREPARE view 0 place 1 done 0 row {OF_ALFA}
+{sent(4, "s0", "s1 s2", f"PREPARE view 0 place 1 done 0 row {OF_ALFA}")}
 3  deliver 4 to s1, PREPARE
    6  s1 -> s0  PREPAREOK view 0 place 1
 4  deliver 6 to s0, PREPAREOK
@@ -27,18 +24,15 @@ CHANGE = f"""1  do ALFA instruct 5 BETA EUR 100 USD 200
    7  s0 -> ALFA  REPLY view 0 to 1 done
 5  timer s1
    s1 is in change to view 1
-   8  s1 -> s0  STARTVIEWCHANGE view 1 boots 0 0 0
-   9  s1 -> s2  STARTVIEWCHANGE view 1 boots 0 0 0
+{sent(8, "s1", "s0 s2", "STARTVIEWCHANGE view 1 boots 0 0 0")}
 6  deliver 9 to s2, STARTVIEWCHANGE
    s2 is in change to view 1
-   10  s2 -> s0  STARTVIEWCHANGE view 1 boots 0 0 0
-   11  s2 -> s1  STARTVIEWCHANGE view 1 boots 0 0 0
+{sent(10, "s2", "s0 s1", "STARTVIEWCHANGE view 1 boots 0 0 0")}
    12  s2 -> s1  DOVIEWCHANGE view 1 normal 0 done 0 rows 0 boots 0 0 0
 7  deliver 11 to s1, STARTVIEWCHANGE
 8  deliver 12 to s1, DOVIEWCHANGE
    s1 is normal in view 1
-   13  s1 -> s0  STARTVIEW view 1 done 0 rows 1 last {OF_ALFA}
-   14  s1 -> s2  STARTVIEW view 1 done 0 rows 1 last {OF_ALFA}
+{sent(13, "s1", "s0 s2", f"STARTVIEW view 1 done 0 rows 1 last {OF_ALFA}")}
 9  deliver 14 to s2, STARTVIEW
    s2 is normal in view 1
    15  s2 -> s1  PREPAREOK view 1 place 1
@@ -49,26 +43,19 @@ CHANGE = f"""1  do ALFA instruct 5 BETA EUR 100 USD 200
    s0 is down
 12  restart s0
    s0 is recovering
-   17  s0 -> s1  RECOVERY nonce 1
-   18  s0 -> s2  RECOVERY nonce 1
+{sent(17, "s0", "s1 s2", "RECOVERY nonce 1")}
 13  deliver 17 to s1, RECOVERY
    19  s1 -> s0  RECOVERYRESPONSE view 1 nonce 1 done 1 rows 1 last {OF_ALFA} boots 1 0 0
 14  deliver 18 to s2, RECOVERY
    20  s2 -> s0  RECOVERYRESPONSE view 1 nonce 1 boots 1 0 0
 15  do OP settle 8
-   21  OP -> s0  REQUEST 1 settle 8
-   22  OP -> s1  REQUEST 1 settle 8
-   23  OP -> s2  REQUEST 1 settle 8
+{sent(21, "OP", "s0 s1 s2", "REQUEST 1 settle 8")}
 16  deliver 22 to s1, REQUEST
-   24  s1 -> s0  PREPARE view 1 place 2 done 1 row OP 1 settle 8
-   25  s1 -> s2  PREPARE view 1 place 2 done 1 row OP 1 settle 8
+{sent(24, "s1", "s0 s2", "PREPARE view 1 place 2 done 1 row OP 1 settle 8")}
 17  do BETA rescind 5
-   26  BETA -> s0  REQUEST 1 rescind 5
-   27  BETA -> s1  REQUEST 1 rescind 5
-   28  BETA -> s2  REQUEST 1 rescind 5
+{sent(26, "BETA", "s0 s1 s2", "REQUEST 1 rescind 5")}
 18  deliver 27 to s1, REQUEST
-   29  s1 -> s0  PREPARE view 1 place 3 done 1 row BETA 1 rescind 5
-   30  s1 -> s2  PREPARE view 1 place 3 done 1 row BETA 1 rescind 5
+{sent(29, "s1", "s0 s2", "PREPARE view 1 place 3 done 1 row BETA 1 rescind 5")}
 19  deliver 30 to s2, PREPARE
    s2 executes row 1
    31  s2 -> s1  GETSTATE view 1 base 1
@@ -84,13 +71,10 @@ class Steps(Runs):
         self.prints([*TRACE, *words], trace, script="".join(f"{it}\n" for it in steps))
 
     def test_a_pay_in_is_told(self):
-        self.is_told("""1  payin ALFA USD 1200
-   1  USD -> s0  REQUEST 1 fund USD 1 ALFA 1200
-   2  USD -> s1  REQUEST 1 fund USD 1 ALFA 1200
-   3  USD -> s2  REQUEST 1 fund USD 1 ALFA 1200
+        self.is_told(f"""1  payin ALFA USD 1200
+{sent(1, "USD", "s0 s1 s2", "REQUEST 1 fund USD 1 ALFA 1200")}
 2  deliver 1 to s0, REQUEST
-   4  s0 -> s1  PREPARE view 0 place 1 done 0 row USD 1 fund USD 1 ALFA 1200
-   5  s0 -> s2  PREPARE view 0 place 1 done 0 row USD 1 fund USD 1 ALFA 1200
+{sent(4, "s0", "s1 s2", "PREPARE view 0 place 1 done 0 row USD 1 fund USD 1 ALFA 1200")}
 3  deliver 2 to s1, REQUEST: dropped, another site is the primary
 4  deliver 4 to s1, PREPARE
    6  s1 -> s0  PREPAREOK view 0 place 1
@@ -102,8 +86,7 @@ class Steps(Runs):
 7  deliver 7 to s0, PREPAREOK
 8  deliver 8 to USD, REPLY
 9  beat s0
-   9  s0 -> s1  COMMIT view 0 done 1
-   10  s0 -> s2  COMMIT view 0 done 1
+{sent(9, "s0", "s1 s2", "COMMIT view 0 done 1")}
 """)
 
     def test_a_view_change_and_what_follows_are_told(self):
@@ -198,5 +181,5 @@ class Steps(Runs):
         self.shows(PLAY, script, want, of_sites(5))
 
     def test_a_timer_tells_six_other_sites(self):
-        sent = "".join(f"   {number}  s1 -> s{to}  STARTVIEWCHANGE view 1 boots 0 0 0 0 0 0 0\n" for number, to in enumerate((0, 2, 3, 4, 5, 6), 1))
-        self.prints(TRACE, f"1  timer s1\n   s1 is in change to view 1\n{sent}", of_sites(7), "timer s1\n")
+        told = sent(1, "s1", "s0 s2 s3 s4 s5 s6", "STARTVIEWCHANGE view 1 boots 0 0 0 0 0 0 0")
+        self.prints(TRACE, f"1  timer s1\n   s1 is in change to view 1\n{told}\n", of_sites(7), "timer s1\n")
