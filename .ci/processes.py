@@ -1,4 +1,5 @@
 """Banks whose actors are processes of the program, over the loopback of this machine, and frames that strangers send them."""
+import contextlib
 import json
 import os
 import pathlib
@@ -127,20 +128,21 @@ class Process:
         self.kill()
         return self.machine.loses_power(draw)
 
-    def ends(self):
-        """Ends its terminal, and answers the status."""
-        self.process.stdin.close()
+    def status(self, what):
+        """The status with which it ends, where it should do this."""
         try:
             return self.process.wait(PATIENCE)
         except subprocess.TimeoutExpired:
-            raise Wrong(f"{self.name} has not ended {PATIENCE} seconds after its terminal") from None
+            raise Wrong(f"{self.name} goes on after {PATIENCE} seconds, where it should {what}") from None
+
+    def ends(self):
+        """Ends its terminal, and answers the status."""
+        self.process.stdin.close()
+        return self.status("end behind its terminal")
 
     def fails(self, fault):
         """Demands that it ends with status 1, and tells this fault last."""
-        try:
-            status = self.process.wait(PATIENCE)
-        except subprocess.TimeoutExpired:
-            raise Wrong(f"{self.name} goes on, where it should tell {fault!r}") from None
+        status = self.status(f"tell {fault!r}")
         time.sleep(0.1)
         is_so = status == 1 and self.told[-1:] == [fault]
         demand(is_so, f"{self.name} ended with status {status}, and told {self.told[-1:]} for {fault!r}")
@@ -268,6 +270,13 @@ def hello_of(journal, actor):
     return struct.pack(">IH", 34, actor) + journal.read_bytes()[12:44]
 
 
+def drained(stream):
+    """Takes all that comes, to its end."""
+    with contextlib.suppress(OSError):
+        while stream.recv(65_536):
+            pass
+
+
 class Flooding:
     """A member who sends the sites at these ports what it likes."""
 
@@ -276,14 +285,7 @@ class Flooding:
         self.streams = [socket.create_connection(("127.0.0.1", port), 5) for port in ports]
         for it in self.streams:
             it.sendall(hello_of(journal, actor))
-            threading.Thread(target=self.hear, args=(it,), daemon=True).start()
-
-    def hear(self, stream):
-        try:
-            while stream.recv(65_536):
-                pass
-        except OSError:
-            pass
+            threading.Thread(target=drained, args=(it,), daemon=True).start()
 
     def sends(self, step, count=200):
         """So many requests to each site, whose numbers rise by this."""

@@ -38,28 +38,18 @@ WRONG = {
     "deposit": ["{}", "[10000,10000,null]"],
 }
 
-# the first values that a rule does not allow, and the last that it does
-BROKEN = {
-    "sites": ("K1", ["4", "18446744073709551615"]),
-    "code": ("K3", ['"US"', '"USDX"', '"USd"', '"US1"', '"EUR"']),
-    "rate": ("K4", ["0", "1000001", "18446744073709551615"]),
-    "haircut": ("K5", ["10000"]),
-    "name": ("K7", ['""', '"BETA56789"', '"BeTA"', '"0BETA"', '"ALFA"', '"OP"', '"JPY"']),
-    "aggregate": ("K9", ["1000000000000000001"]),
-    "short": ("K9", ["[1000,1000,1000000000000000001]"]),
-    "deposit": ("K9", ["[1000000000000001,10000,1000000]"]),
+# of each field the last values that its rule allows, and the first that it refuses, by this code
+BOUNDS = {
+    "sites": (["5"], "K1", ["4", "18446744073709551615"]),
+    "code": (['"AZA"'], "K3", ['"US"', '"USDX"', '"USd"', '"US1"', '"EUR"']),
+    "rate": (["1", "1000000"], "K4", ["0", "1000001", "18446744073709551615"]),
+    "haircut": (["9999"], "K5", ["10000"]),
+    "name": (['"B"', '"BETA5678"', '"OPS"'], "K7", ['""', '"BETA56789"', '"BeTA"', '"0BETA"', '"ALFA"', '"OP"', '"JPY"']),
+    "aggregate": (["1000000000000000000"], "K9", ["1000000000000000001"]),
+    "short": (["[1000,1000,1000000000000000000]"], "K9", ["[1000,1000,1000000000000000001]"]),
+    "deposit": (["[1000000000000000,10000,1000000]"], "K9", ["[1000000000000001,10000,1000000]"]),
 }
-BROKEN_LENGTHS = {"short": ["[1000,1000]", "[1000,1000,100000,0]"], "deposit": ["[]", "[10000,10000,1000000,0]"]}
-ALLOWED = {
-    "sites": ["5"],
-    "code": ['"AZA"'],
-    "rate": ["1", "1000000"],
-    "haircut": ["9999"],
-    "name": ['"B"', '"BETA5678"', '"OPS"'],
-    "aggregate": ["1000000000000000000"],
-    "short": ["[1000,1000,1000000000000000000]"],
-    "deposit": ["[1000000000000000,10000,1000000]"],
-}
+WRONG_LENGTHS = {"short": ["[1000,1000]", "[1000,1000,100000,0]"], "deposit": ["[]", "[10000,10000,1000000,0]"]}
 
 # other members are ignored, and of a name that stands twice the last value counts
 OTHERS = [
@@ -119,10 +109,10 @@ class Setups(Runs):
             self.are_told((f'"{field}":{value}', f'"{other}":{value}', "J2") for other in (field[:-1], f"{field}s"))
 
     def test_each_rule_at_its_bounds(self):
-        for field, (code, values) in BROKEN.items():
-            self.have({field: values}, code)
-        self.have(BROKEN_LENGTHS, "K8")
-        self.have(ALLOWED, None)
+        for field, (allowed, code, refused) in BOUNDS.items():
+            self.have({field: allowed}, None)
+            self.have({field: refused}, code)
+        self.have(WRONG_LENGTHS, "K8")
         for currencies, members, code in ((0, 1, "K2"), (1, 1, None), (8, 64, None), (9, 64, "K2"), (1, 0, "K6"), (8, 65, "K6")):
             self.is_told(bank_of(currencies, members), code)
 
