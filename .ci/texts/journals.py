@@ -1,16 +1,12 @@
 """Audits of journals that are spelled here byte by byte, from the page that describes them."""
 import hashlib
 import itertools
-import os
 import struct
-import sys
 from typing import NamedTuple
 
-sys.path.append(os.path.join(os.path.dirname(os.path.abspath(__file__)), ".."))
-
-import journal_bytes  # noqa: E402
-from journal_bytes import frame  # noqa: E402
-from program import FOUR_SITES, NEW_SITE, SETUP, Runs, books  # noqa: E402
+from program import FOUR_SITES, NEW_SITE, SETUP, Runs, books  # it says where the next modules are
+import journal_bytes
+from journal_bytes import frame
 
 LIFE = bytes(range(16))
 CLIENTS, NODES, SITES = [0, 1, 2], [101, 102, 103], [200, 201, 202]

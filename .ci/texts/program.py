@@ -2,10 +2,14 @@
 import os
 import resource
 import subprocess
+import sys
 import tempfile
 import unittest
 
-PROGRAM = os.path.abspath(os.path.join(os.path.dirname(__file__), "..", "..", "crates", "pvpsim", "out", "pvpsim"))
+sys.path.append(os.path.dirname(os.path.dirname(os.path.abspath(__file__))))
+
+from books import blocks_of  # noqa: E402
+from shared import BUILT  # noqa: E402
 
 # three currencies, and two members with equal limits
 SETUP = """{"sites":3,
@@ -65,16 +69,9 @@ def sent(first, sender, receivers, message):
 
 
 def adds_up(text):
-    """Whether each printed site's figure and way come to the account above it; and there is one."""
-    account, seen = 0, False
-    for words in (line.split() for line in text.splitlines()):
-        if words[0] == "node":
-            account = int(words[3])
-        elif words[0] == "site" and words[2] == "figure":
-            if int(words[3]) + int(words[5]) != account:
-                return False
-            seen = True
-    return seen
+    """Whether there are printed books, of which nothing is wrong: each account is a site's figure and the payments on the way."""
+    blocks, wrong = blocks_of(text)
+    return blocks and not wrong
 
 
 class Runs(unittest.TestCase):
@@ -96,7 +93,7 @@ class Runs(unittest.TestCase):
                 with open(os.path.join(folder, name), "wb") as file:
                     file.write(text)
             how = {"stdin": subprocess.DEVNULL, "stdout": out, "stderr": subprocess.PIPE, "timeout": 120, "preexec_fn": self.limit}
-            ran = subprocess.run([PROGRAM, *words], cwd=folder, **how)
+            ran = subprocess.run([BUILT, *words], cwd=folder, **how)
         return ran.returncode, (ran.stdout or b"").decode(), ran.stderr.decode()
 
     def ends(self, words, want, setup=SETUP, script=""):
