@@ -92,6 +92,14 @@ def blocks_of(text):
     return blocks, wrong + [it for block in blocks for it in block.faults()]
 
 
+def judged(text):
+    """The block of books in what a run printed that was judged yes, and what is wrong with it."""
+    blocks, wrong = blocks_of(text.removesuffix("audit yes\n"))
+    if not text.endswith("audit yes\n") or len(blocks) != 1:
+        wrong.insert(0, f"it printed {len(blocks)} blocks of books, and at its end {text[-80:]!r}")
+    return blocks[0] if blocks else Block(), wrong
+
+
 def parted(told):
     """What a live run told, without its last line where that is of refused lines, and of how many."""
     found = REFUSED.search(told)

@@ -1,11 +1,12 @@
 """Networks for processes of one machine that can be cut: rooms of the kernel (network namespaces) that a bridge joins, and streams that
 pass through this script, which may delay what they carry.
 """
-import asyncio
 import contextlib
 import random
+import socket
 import subprocess
 import threading
+import time
 
 
 class Unable(Exception):
@@ -76,73 +77,68 @@ class Rooms:
 
 
 class Wire:
-    """The streams that one process opens to another, all of which pass through this script."""
+    """The streams that one process opens to another, which listens at this port: they come to a port of their own, and all that they
+    carry passes through this script."""
 
-    def __init__(self, port):
-        self.port = port
-        self.is_open = asyncio.Event()
+    def __init__(self, port, draw):
+        self.port, self.draw = port, draw
+        self.is_open = threading.Event()
         self.is_open.set()
         # what each piece takes, how much more one that has to be sent again, how often that is, and how many bytes a piece has
         self.delay, self.again, self.lost, self.most = 0.0, 0.0, 0.0, 65_536
+        self.server = socket.create_server(("127.0.0.1", 0))
+        threading.Thread(target=self.listen, daemon=True).start()
 
-    async def carry(self, source, sink, draw):
-        """Hands on what comes from one side, piece by piece, to its end."""
-        try:
-            while piece := await source.read(self.most):
+    def listen(self):
+        with contextlib.suppress(OSError):
+            while True:
+                threading.Thread(target=self.join, args=self.server.accept()[:1], daemon=True).start()
+
+    def join(self, ours):
+        """Joins a stream that came with one to the process that it goes to."""
+        self.is_open.wait()
+        with ours, contextlib.suppress(OSError), socket.create_connection(("127.0.0.1", self.port)) as theirs:
+            back = threading.Thread(target=self.carry, args=(theirs, ours), daemon=True)
+            back.start()
+            self.carry(ours, theirs)
+            back.join()
+
+    def carry(self, source, sink):
+        """Hands on what comes from one side, piece by piece, to its end, which is that of both."""
+        with contextlib.suppress(OSError):
+            while piece := source.recv(self.most):
                 if self.delay:
-                    await asyncio.sleep(self.delay + (self.again if draw.random() < self.lost else 0))
-                await self.is_open.wait()
-                sink.write(piece)
-                await sink.drain()
-        except OSError:
-            pass
-        finally:
-            sink.close()
+                    time.sleep(self.delay + (self.again if self.draw.random() < self.lost else 0))
+                self.is_open.wait()
+                sink.sendall(piece)
+        for it in source, sink:
+            with contextlib.suppress(OSError):
+                it.shutdown(socket.SHUT_RDWR)
 
 
 class Wires:
-    """Wires between processes, each with a port of its own. What is on its way while a wire is cut comes once it is healed."""
+    """Wires between processes. What is on its way while a wire is cut comes once it is healed."""
 
     def __init__(self, seed=0):
-        self.loop = asyncio.new_event_loop()
-        self.draw = random.Random(seed)
-        self.wires = {}
-        self.thread = threading.Thread(target=self.loop.run_forever, daemon=True)
-        self.thread.start()
-
-    def run(self, what):
-        return asyncio.run_coroutine_threadsafe(what, self.loop).result(10)
+        self.draw, self.wires = random.Random(seed), {}
 
     def wire(self, dialer, site, port):
         """The port of a new wire from one process to a site, by their names, which listens at this port."""
-        it = self.wires[dialer, site] = Wire(port)
+        it = self.wires[dialer, site] = Wire(port, self.draw)
+        return it.server.getsockname()[1]
 
-        async def opened(reader, writer):
-            # the end of this script is no fault of a stream
-            with contextlib.suppress(asyncio.CancelledError):
-                await it.is_open.wait()
-                try:
-                    theirs, ours = await asyncio.open_connection("127.0.0.1", it.port)
-                except OSError:
-                    writer.close()
-                    return
-                await asyncio.gather(it.carry(reader, ours, self.draw), it.carry(theirs, writer, self.draw))
-
-        server = self.run(asyncio.start_server(opened, "127.0.0.1", 0))
-        return server.sockets[0].getsockname()[1]
-
-    def between(self, *names):
+    def between(self, *sites):
         """The wires at whose ends these stand."""
-        return [it for ends, it in self.wires.items() if all(name in ends for name in names)]
+        return [it for ends, it in self.wires.items() if all(f"s{site}" in ends for site in sites)]
 
-    def cut(self, site, *other):
-        """From now on nothing passes between this site and all others, or one of these."""
-        for it in self.between(*(f"s{number}" for number in (site, *other))):
-            self.loop.call_soon_threadsafe(it.is_open.clear)
+    def cut(self, *sites):
+        """From now on nothing passes between these two sites, or between the one and all others."""
+        for it in self.between(*sites):
+            it.is_open.clear()
 
-    def heal(self, site, *other):
-        for it in self.between(*(f"s{number}" for number in (site, *other))):
-            self.loop.call_soon_threadsafe(it.is_open.set)
+    def heal(self, *sites):
+        for it in self.between(*sites):
+            it.is_open.set()
 
     def slow(self, delay, again, lost, most):
         """Each piece of so many bytes at the most takes so long from now on, and some, by chance, so much longer."""
@@ -150,12 +146,26 @@ class Wires:
             it.delay, it.again, it.lost, it.most = delay, again, lost, most
 
     def close(self):
-        async def ended():
-            tasks = [it for it in asyncio.all_tasks() if it is not asyncio.current_task()]
-            for it in tasks:
-                it.cancel()
-            await asyncio.gather(*tasks, return_exceptions=True)
+        for it in self.wires.values():
+            it.server.shutdown(socket.SHUT_RDWR)
+            it.server.close()
+            it.is_open.set()
 
-        self.run(ended())
-        self.loop.call_soon_threadsafe(self.loop.stop)
-        self.thread.join(10)
+
+def in_rooms(bank):
+    """Each site stands in a room of its own, and all others in the one between them."""
+    bank.net = Rooms(len(bank.sites))
+    bank.peers = bank.write_peers("peers", [f"{Rooms.host(at)}:{Rooms.PORT}" for at in range(len(bank.sites))])
+    for it in bank.all:
+        room = bank.net.sites[bank.sites.index(it)] if it in bank.sites else bank.net.hall
+        it.place = Rooms.words(room)
+
+
+def over_wires(bank):
+    """Whoever dials a site does it over a wire of its own."""
+    bank.net = Wires()
+    for it in bank.all:
+        # a site dials those before it
+        dialed = bank.sites[: bank.sites.index(it)] if it in bank.sites else bank.sites
+        ports = [bank.net.wire(it.name, f"s{at}", port) if bank.sites[at] in dialed else port for at, port in enumerate(bank.ports)]
+        it.peers = bank.write_peers(f"{it.name}.peers", [f"127.0.0.1:{port}" for port in ports])

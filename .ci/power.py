@@ -1,15 +1,6 @@
 """What a power cut leaves of the files of a process: `.ci/forget.c` notes what was synced, and the rest is forgotten."""
 import os
-import subprocess
 import uuid
-
-
-def shim_in(folder):
-    """The shim that notes what was synced, built with the C compiler."""
-    shim = os.path.join(folder, "forget.so")
-    source = os.path.join(os.path.dirname(os.path.abspath(__file__)), "forget.c")
-    subprocess.run(["cc", "-O1", "-fPIC", "-shared", "-o", shim, source], check=True, capture_output=True)
-    return shim
 
 
 class Machine:

@@ -82,11 +82,10 @@ class Cluster:
             time.sleep(0.05)
         raise SystemExit("etcd has no leader after 30 seconds")
 
-    def asks(self, connections, count, ports=None, json=False):
-        """Seconds until each connection had so many puts answered by the leader, one at a time, or by who answers at these ports: by
-        etcd's own protocol, or in JSON."""
+    def asks(self, connections, count, ports=None):
+        """Seconds until each connection had so many puts answered by the leader, one at a time, or by who answers at these ports."""
         ports = ports or [self.clients[self.leader]]
-        words = [self.puts, ",".join(map(str, ports)), str(connections), str(count), *["json"] * json]
+        words = [self.puts, ",".join(map(str, ports)), str(connections), str(count)]
         return float(subprocess.run(words, check=True, capture_output=True, text=True, timeout=300).stdout)
 
     def loses_leader(self):

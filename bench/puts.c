@@ -1,7 +1,6 @@
-/* Puts keys into an etcd, each connection one at a time, by its own protocol (gRPC over HTTP/2 without encryption), or by the JSON
-   that it takes too.
+/* Puts keys into an etcd, each connection one at a time, by its own protocol (gRPC over HTTP/2 without encryption).
 
-   puts PORT[,PORT..] CONNECTIONS COUNT [json]     prints the seconds that it took until each connection had COUNT puts answered
+   puts PORT[,PORT..] CONNECTIONS COUNT     prints the seconds that it took until each connection had COUNT puts answered
 
    A put that is refused, or not answered within a tenth of a second where several ports are named, is tried again at the next port. */
 #define _GNU_SOURCE
@@ -24,7 +23,7 @@ enum { END_STREAM = 1, ACK = 1, END_HEADERS = 4, HEAD = 9, MOST = 1 << 16 };
 static const uint8_t headers[] =
     "\x83\x86\x04\x14/etcdserverpb.KV/Put\x01\x09localhost\x0f\x10\x10" "application/grpc\x00\x02te\x08trailers";
 
-static int ports[8], port_count, put_count, is_json;
+static int ports[8], port_count, put_count;
 
 /* a stream of frames, and those bytes of it that came and were not taken */
 struct link {
@@ -53,7 +52,6 @@ static int dial(struct link *link, int port) {
   setsockopt(link->socket, IPPROTO_TCP, TCP_NODELAY, &yes, sizeof yes);
   setsockopt(link->socket, SOL_SOCKET, SO_RCVTIMEO, &patience, sizeof patience);
   if (connect(link->socket, (void *)&to, sizeof to)) return 0;
-  if (is_json) return 1;
   /* the preface, no settings, and room for all answers that will ever come */
   uint8_t hello[24 + HEAD + HEAD + 4], *at = (uint8_t *)mempcpy(hello, "PRI * HTTP/2.0\r\n\r\nSM\r\n\r\n", 24);
   at = put_head(at, 0, SETTINGS, 0, 0);
@@ -61,29 +59,10 @@ static int dial(struct link *link, int port) {
   return sends(link, hello, sizeof hello);
 }
 
-static void put_base64(char *to, const char *text, int size) {
-  static const char digits[] = "ABCDEFGHIJKLMNOPQRSTUVWXYZabcdefghijklmnopqrstuvwxyz0123456789+/";
-  for (; size > 0; size -= 3, text += 3, to += 4) {
-    uint32_t three = (uint8_t)text[0] << 16 | (size > 1 ? (uint8_t)text[1] << 8 : 0) | (size > 2 ? (uint8_t)text[2] : 0);
-    for (int at = 0; at < 4; at++) to[at] = at <= size ? digits[three >> (18 - 6 * at) & 63] : '=';
-  }
-  *to = 0;
-}
-
-static int ask_json(struct link *link, const char *key, int key_size, const char *value, int value_size) {
-  char coded_key[64], coded_value[128], body[256], bytes[512];
-  put_base64(coded_key, key, key_size);
-  put_base64(coded_value, value, value_size);
-  int size = sprintf(body, "{\"key\":\"%s\",\"value\":\"%s\"}", coded_key, coded_value);
-  size = sprintf(bytes, "POST /v3/kv/put HTTP/1.1\r\nHost: localhost\r\nContent-Type: application/json\r\nContent-Length: %d\r\n\r\n%s", size, body);
-  return sends(link, (uint8_t *)bytes, size);
-}
-
 static int ask(struct link *link, int connection, int number) {
   uint8_t bytes[512], message[256], *at = bytes;
   char key[32], value[64];
   int key_size = sprintf(key, "m%d/%d", connection, number), value_size = sprintf(value, "instruct %d M31 USD 1 EUR 1", number);
-  if (is_json) return ask_json(link, key, key_size, value, value_size);
   int size = 2 + key_size + 2 + value_size;
   memcpy(message, (uint8_t[]){0, 0, 0, 0, size, 0x0a, key_size}, 7);
   memcpy(message + 7, key, key_size);
@@ -105,23 +84,8 @@ static int take(struct link *link, const uint8_t *frame, size_t length, int *is_
   return (kind == DATA || kind == HEADERS) && (flags & END_STREAM) ? (*is_answered ? 1 : -1) : 0;
 }
 
-/* whether an answer in JSON came whole, and is none of a fault */
-static int hears_json(struct link *link) {
-  for (;;) {
-    char *text = (char *)link->bytes, *end = strstr(text, "\r\n\r\n"), *length = strcasestr(text, "content-length:");
-    if (end && length && length < end && link->got >= (size_t)(end + 4 - text) + atoi(length + 15)) break;
-    ssize_t got = recv(link->socket, link->bytes + link->got, MOST - 1 - link->got, 0);
-    if (got <= 0) return 0;
-    link->bytes[link->got += got] = 0;
-  }
-  int is_put = !memcmp(link->bytes, "HTTP/1.1 200", 12);
-  link->bytes[link->got = 0] = 0;
-  return is_put;
-}
-
 /* whether the request that was asked is answered with what a put answers */
 static int hears(struct link *link) {
-  if (is_json) return hears_json(link);
   int is_answered = 0;
   for (;;) {
     size_t at = 0;
@@ -161,8 +125,7 @@ static void *work(void *which) {
 }
 
 int main(int count, char **words) {
-  if (count < 4 || count > 5) return 2;
-  is_json = count == 5;
+  if (count != 4) return 2;
   for (char *it = strtok(words[1], ","); it && port_count < 8; it = strtok(NULL, ",")) ports[port_count++] = atoi(it);
   int connections = atoi(words[2]);
   put_count = atoi(words[3]);

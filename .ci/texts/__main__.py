@@ -16,18 +16,10 @@ sys.dont_write_bytecode = True
 HERE = os.path.dirname(os.path.abspath(__file__))
 
 
-def named(suite, words):
-    """The cases of a suite whose names have one of these words, or all."""
-    for it in suite:
-        if isinstance(it, unittest.TestSuite):
-            yield from named(it, words)
-        elif not words or any(word in it.id() for word in words):
-            yield it
-
-
 def main(words):
-    cases = unittest.TestSuite(named(unittest.defaultTestLoader.discover(HERE, pattern="[a-z]*.py"), words))
-    ran = unittest.TextTestRunner(verbosity=0).run(cases)
+    chosen = [it for word in words for it in ("-k", word)]
+    asked = [sys.argv[0], "discover", "-s", HERE, "-p", "[a-z]*.py", *chosen]
+    ran = unittest.main(module=None, argv=asked, verbosity=0, exit=False).result
     # of a case several rows may fail; one that is left out, or is meant to fail, shows nothing
     bad = [it for it, _ in ran.failures + ran.errors + ran.skipped + ran.expectedFailures] + ran.unexpectedSuccesses
     failed = len({getattr(it, "test_case", it).id() for it in bad})

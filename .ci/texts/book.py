@@ -1,264 +1,97 @@
 """Scripts on one book: the worked scripts, faults, and which file is judged first."""
 from program import BOOK, FOUR_SITES, SETUP, TWO_DOLLARS, Runs
 
+
+def block(alfa, beta, pairs, figure):
+    """The lines that `print` prints where no order is open."""
+    return [f"ALFA {alfa}", f"BETA {beta}", f"pairs {pairs}", f"figure {figure}", "open 0"]
+
+
+def pair(reference, sells, buys):
+    """ALFA and BETA enter the two sides of a pair."""
+    return [(f"do ALFA instruct {reference} BETA {sells} {buys}", "done"), (f"do BETA instruct {reference} ALFA {buys} {sells}", "matched")]
+
+
+def paid_in(dollars, euros):
+    """ALFA pays in dollars, and BETA euros."""
+    return [(f"do USD fund USD 1 ALFA {dollars}", "done"), (f"do EUR fund EUR 1 BETA {euros}", "done")]
+
+
 # the script that settles one pair
-PAIR = """do USD fund USD 1 ALFA 1200
-do EUR fund EUR 1 BETA 48
-do ALFA instruct 1 BETA USD 1100 EUR 1000
-do BETA instruct 1 ALFA EUR 1000 USD 1100
-do OP settle 10
-print
-"""
+SETTLED = [*paid_in(1200, 48), *pair(1, "USD 1100", "EUR 1000"), ("do OP settle 10", "settled 1")]
+PAIR = "".join(f"{line}\n" for line, _ in [*SETTLED, ("print", "")])
 
-# what a script prints on the setup of the worked scripts
-WORKED = [
-    # an empty script
-    ("", ""),
-    # a member would have too little value
-    (
-        """do USD fund USD 1 ALFA 1200
-do EUR fund EUR 1 BETA 47
-do ALFA instruct 1 BETA USD 1100 EUR 1000
-do BETA instruct 1 ALFA EUR 1000 USD 1100
-do OP settle 10
-""",
-        """1 done
-2 done
-3 done
-4 matched
-5 settled 0
-""",
-    ),
-    # with one unit more it settles
-    (
-        PAIR,
-        """1 done
-2 done
-3 done
-4 matched
-5 settled 1
-ALFA 1000 100 0
-BETA -952 1100 0
-pairs 0 0 1 0
-figure 48 1200 0
-open 0
-""",
-    ),
-    # a short limit is reached
-    (
-        """do USD fund USD 1 ALFA 1200
-do ALFA instruct 2 BETA USD 1200 JPY 100000
-do BETA instruct 2 ALFA JPY 100000 USD 1200
-do OP settle 1
-print
-""",
-        """1 done
-2 done
-3 matched
-4 settled 1
-ALFA 0 0 100000
-BETA 0 1200 -100000
-pairs 0 0 1 0
-figure 0 1200 0
-open 0
-""",
-    ),
-    # it is passed by one
-    (
-        """do USD fund USD 1 ALFA 1200
-do ALFA instruct 2 BETA USD 1200 JPY 100001
-do BETA instruct 2 ALFA JPY 100001 USD 1200
-do OP settle 1
-""",
-        """1 done
-2 done
-3 matched
-4 settled 0
-""",
-    ),
-    # a mirror that differs, and a pair that is matched already
-    (
-        """do ALFA instruct 3 BETA USD 10 EUR 9
-do BETA instruct 3 ALFA EUR 9 USD 11
-do BETA instruct 3 ALFA EUR 9 USD 10
-do ALFA instruct 3 BETA USD 10 EUR 9
-""",
-        """1 done
-2 no B6
-3 matched
-4 no B5
-""",
-    ),
-    # one side alone takes a matched pair back
-    (
-        """do USD fund USD 1 ALFA 10
-do EUR fund EUR 1 BETA 9
-do ALFA instruct 3 BETA USD 10 EUR 9
-do BETA instruct 3 ALFA EUR 9 USD 10
-do ALFA rescind 3
-do OP settle 9
-do BETA rescind 3
-""",
-        """1 done
-2 done
-3 done
-4 matched
-5 done
-6 settled 1
-7 no B8
-""",
-    ),
-    # both sides take it back
-    (
-        """do USD fund USD 1 ALFA 10
-do EUR fund EUR 1 BETA 9
-do ALFA instruct 3 BETA USD 10 EUR 9
-do BETA instruct 3 ALFA EUR 9 USD 10
-do ALFA rescind 3
-do BETA rescind 3
-do OP settle 9
-do ALFA rescind 3
-""",
-        """1 done
-2 done
-3 done
-4 matched
-5 done
-6 done
-7 settled 0
-8 no B8
-""",
-    ),
-    # pay-outs of more than the bank has, and of all it has
-    (
-        """do USD fund USD 1 ALFA 1200
-do EUR fund EUR 1 BETA 48
-do ALFA instruct 1 BETA USD 1100 EUR 1000
-do BETA instruct 1 ALFA EUR 1000 USD 1100
-do OP settle 10
-do ALFA payout EUR 1000
-do ALFA payout EUR 48
-do EUR paid EUR 1
-do EUR paid EUR 1
-print
-""",
-        """1 done
-2 done
-3 done
-4 matched
-5 settled 1
-6 no B11
-7 order 1
-8 done
-9 no B5
-ALFA 952 100 0
-BETA -952 1100 0
-pairs 0 0 1 0
-figure 0 1200 0
-open 0
-""",
-    ),
-    # a pay-out that is paid
-    (
-        """do USD fund USD 1 ALFA 1200
-do ALFA payout USD 200
-do USD paid USD 1
-print
-""",
-        """1 done
-2 order 1
-3 done
-ALFA 0 1000 0
-BETA 0 0 0
-pairs 0 0 0 0
-figure 0 1000 0
-open 0
-""",
-    ),
-    # refusals in their order
-    (
-        """do BETA fund USD 1 ALFA 5
-do USD fund USD 1 @3 5
-do ALFA payout @3 1
-do USD fund USD 1 ALFA 1000000000001
-do USD fund USD 0 ALFA 5
-do USD fund USD 1 ALFA 1000000000000
-do USD fund USD 1 ALFA 5
-do BETA payout USD 1
-do USD paid USD 1
-""",
-        """1 no B1
-2 no B2
-3 no B3
-4 no B4
-5 no B7
-6 done
-7 no B5
-8 no B9
-9 no B7
-""",
-    ),
-    # the aggregate limit is passed
-    (
-        """do USD fund USD 1 ALFA 2000
-do USD fund USD 2 BETA 1000
-do ALFA instruct 1 BETA USD 1000 EUR 1000
-do BETA instruct 1 ALFA EUR 1000 USD 1000
-do ALFA instruct 2 BETA USD 1000 JPY 40001
-do BETA instruct 2 ALFA JPY 40001 USD 1000
-do OP settle 9
-""",
-        """1 done
-2 done
-3 done
-4 matched
-5 done
-6 matched
-7 settled 1
-""",
-    ),
-    # it is reached
-    (
-        """do USD fund USD 1 ALFA 2000
-do USD fund USD 2 BETA 1000
-do ALFA instruct 1 BETA USD 1000 EUR 1000
-do BETA instruct 1 ALFA EUR 1000 USD 1000
-do ALFA instruct 2 BETA USD 1000 JPY 40000
-do BETA instruct 2 ALFA JPY 40000 USD 1000
-do OP settle 9
-""",
-        """1 done
-2 done
-3 done
-4 matched
-5 done
-6 matched
-7 settled 2
-""",
-    ),
-    # a pair that a later one of the same walk would let pass
-    (
-        """do USD fund USD 1 ALFA 1200
-do EUR fund EUR 1 BETA 47
-do ALFA instruct 1 BETA USD 1100 EUR 1000
-do BETA instruct 1 ALFA EUR 1000 USD 1100
-do ALFA instruct 2 BETA USD 100 JPY 1
-do BETA instruct 2 ALFA JPY 1 USD 100
-do OP settle 10
-do OP settle 10
-""",
-        """1 done
-2 done
-3 done
-4 matched
-5 done
-6 matched
-7 settled 1
-8 settled 1
-""",
-    ),
-]
-
+# worked scripts on the setup that they share: each line with its answer
+WORKED = {
+    "an empty script": [],
+    "a member would have too little value": [*paid_in(1200, 47), *pair(1, "USD 1100", "EUR 1000"), ("do OP settle 10", "settled 0")],
+    "with one unit more it settles": [*SETTLED, ("print", block("1000 100 0", "-952 1100 0", "0 0 1 0", "48 1200 0"))],
+    "a short limit is reached": [
+        ("do USD fund USD 1 ALFA 1200", "done"),
+        *pair(2, "USD 1200", "JPY 100000"),
+        ("do OP settle 1", "settled 1"),
+        ("print", block("0 0 100000", "0 1200 -100000", "0 0 1 0", "0 1200 0")),
+    ],
+    "it is passed by one": [("do USD fund USD 1 ALFA 1200", "done"), *pair(2, "USD 1200", "JPY 100001"), ("do OP settle 1", "settled 0")],
+    "one side alone takes a matched pair back": [
+        *paid_in(10, 9),
+        *pair(3, "USD 10", "EUR 9"),
+        ("do ALFA rescind 3", "done"),
+        ("do OP settle 9", "settled 1"),
+        ("do BETA rescind 3", "no B8"),
+    ],
+    "both sides take it back": [
+        *paid_in(10, 9),
+        *pair(3, "USD 10", "EUR 9"),
+        ("do ALFA rescind 3", "done"),
+        ("do BETA rescind 3", "done"),
+        ("do OP settle 9", "settled 0"),
+        ("do ALFA rescind 3", "no B8"),
+    ],
+    "pay-outs of more than the bank has, and of all it has": [
+        *SETTLED,
+        ("do ALFA payout EUR 1000", "no B11"),
+        ("do ALFA payout EUR 48", "order 1"),
+        ("do EUR paid EUR 1", "done"),
+        ("do EUR paid EUR 1", "no B5"),
+        ("print", block("952 100 0", "-952 1100 0", "0 0 1 0", "0 1200 0")),
+    ],
+    "a pay-out that is paid": [
+        ("do USD fund USD 1 ALFA 1200", "done"),
+        ("do ALFA payout USD 200", "order 1"),
+        ("do USD paid USD 1", "done"),
+        ("print", block("0 1000 0", "0 0 0", "0 0 0 0", "0 1000 0")),
+    ],
+    "refusals in their order": [
+        ("do BETA fund USD 1 ALFA 5", "no B1"),
+        ("do USD fund USD 1 @3 5", "no B2"),
+        ("do ALFA payout @3 1", "no B3"),
+        ("do USD fund USD 1 ALFA 1000000000001", "no B4"),
+        ("do USD fund USD 0 ALFA 5", "no B7"),
+        ("do USD fund USD 1 ALFA 1000000000000", "done"),
+        ("do USD fund USD 1 ALFA 5", "no B5"),
+        ("do BETA payout USD 1", "no B9"),
+        ("do USD paid USD 1", "no B7"),
+    ],
+    # at 40000 JPY the aggregate limit is reached, and at one more it is passed
+    **{
+        f"{settled} settle at JPY {amount}": [
+            ("do USD fund USD 1 ALFA 2000", "done"),
+            ("do USD fund USD 2 BETA 1000", "done"),
+            *pair(1, "USD 1000", "EUR 1000"),
+            *pair(2, "USD 1000", f"JPY {amount}"),
+            ("do OP settle 9", f"settled {settled}"),
+        ]
+        for amount, settled in ((40000, 2), (40001, 1))
+    },
+    "a pair that a later one of the same walk would let pass": [
+        *paid_in(1200, 47),
+        *pair(1, "USD 1100", "EUR 1000"),
+        *pair(2, "USD 100", "JPY 1"),
+        ("do OP settle 10", "settled 1"),
+        ("do OP settle 10", "settled 1"),
+    ],
+}
 
 # each reason to refuse a command, also where two apply: a script's lines, each with its answer
 REFUSED = {
@@ -338,11 +171,7 @@ REFUSED = {
     ],
     # BETA is short of EUR 952, for which it needs USD 1100
     "a payout meets the tests before the bank": [
-        ("do USD fund USD 1 ALFA 1200", "done"),
-        ("do EUR fund EUR 1 BETA 48", "done"),
-        ("do ALFA instruct 1 BETA USD 1100 EUR 1000", "done"),
-        ("do BETA instruct 1 ALFA EUR 1000 USD 1100", "matched"),
-        ("do OP settle 10", "settled 1"),
+        *SETTLED,
         ("do USD fund USD 2 BETA 1", "done"),
         ("do BETA payout EUR 1", "no B9"),
         ("do BETA payout USD 2", "no B10"),
@@ -361,52 +190,40 @@ REFUSED = {
 
 
 class Book(Runs):
+    def answers(self, rows):
+        """The book has this answer to each line of a script, and commands are numbered."""
+        text, number = "", 0
+        for line, answer in rows:
+            number += line != "print"
+            text += "".join(f"{it}\n" for it in answer) if line == "print" else f"{number} {answer}\n"
+        self.prints(BOOK, text, script="".join(f"{line}\n" for line, _ in rows))
+
     def test_the_worked_scripts(self):
-        for script, text in WORKED:
-            self.prints(BOOK, text, script=script)
+        for rows in WORKED.values():
+            self.answers(rows)
 
     def test_each_reason_to_refuse(self):
         for rows in REFUSED.values():
-            script = "".join(f"{line}\n" for line, _ in rows)
-            text = "".join(f"{number} {answer}\n" for number, (_, answer) in enumerate(rows, 1))
-            self.prints(BOOK, text, script=script)
+            self.answers(rows)
 
     def test_pairs_in_each_state(self):
-        script = """do ALFA instruct 3 BETA USD 10 EUR 9
-do BETA instruct 3 ALFA EUR 9 USD 11
-do ALFA instruct 4 BETA USD 10 EUR 9
-do BETA instruct 4 ALFA EUR 9 USD 10
-do ALFA instruct 5 BETA USD 10 EUR 9
-do ALFA rescind 5
-do OP settle 0
-print
-"""
-        text = """1 done
-2 no B6
-3 done
-4 matched
-5 done
-6 done
-7 settled 0
-ALFA 0 0 0
-BETA 0 0 0
-pairs 1 1 0 1
-figure 0 0 0
-open 0
-"""
-        self.prints(BOOK, text, script=script)
+        self.answers([
+            ("do ALFA instruct 3 BETA USD 10 EUR 9", "done"),
+            ("do BETA instruct 3 ALFA EUR 9 USD 11", "no B6"),
+            *pair(4, "USD 10", "EUR 9"),
+            ("do ALFA instruct 5 BETA USD 10 EUR 9", "done"),
+            ("do ALFA rescind 5", "done"),
+            ("do OP settle 0", "settled 0"),
+            ("print", block("0 0 0", "0 0 0", "1 1 0 1", "0 0 0")),
+        ])
 
     def test_any_client_is_read_as_a_side(self):
         """A side and a member may be told by any client's name; the book refuses what is no member."""
-        script = """do ALFA instruct 1 OP USD 1 EUR 1
-do ALFA instruct 1 USD USD 1 EUR 1
-do USD fund USD 1 OP 5
-do USD fund USD 1 JPY 5
-"""
-        self.prints(BOOK, "1 no B2\n2 no B2\n3 no B2\n4 no B2\n", script=script)
+        lines = "ALFA instruct 1 OP USD 1 EUR 1", "ALFA instruct 1 USD USD 1 EUR 1", "USD fund USD 1 OP 5", "USD fund USD 1 JPY 5"
+        self.answers([(f"do {line}", "no B2") for line in lines])
 
     def test_a_fault_is_told_and_nothing_printed(self):
-        cases = [
+        for setup, script, fault in [
             (SETUP, "do ALFA payout USD 01", "fault line 1 L4\n"),
             (SETUP, "print x", "fault line 1 L3\n"),
             (SETUP, "do CARL payout USD 1", "fault line 1 L5\n"),
@@ -416,8 +233,7 @@ do USD fund USD 1 JPY 5
             (TWO_DOLLARS, "print", "fault setup K3\n"),
             ('{"sites":3', "print", "fault json J1\n"),
             ('{"sites":3}', "print", "fault json J2\n"),
-        ]
-        for setup, script, fault in cases:
+        ]:
             self.tells(BOOK, fault, setup, script)
 
     def test_a_check(self):

@@ -5,34 +5,14 @@ import re
 from program import PLAY, Runs, adds_up
 
 # a view change with a site cut off, which is behind when it is healed
-CHANGE = """cut s2
-payin ALFA USD 100
-payin ALFA USD 200
-payin ALFA USD 300
-drain 40
-timer s1
-drain 40
-heal s2
-payin ALFA USD 400
-"""
+FIRST = "payin ALFA USD 100\npayin ALFA USD 200\npayin ALFA USD 300\n"
+CHANGE = f"cut s2\n{FIRST}drain 40\ntimer s1\ndrain 40\nheal s2\npayin ALFA USD 400\n"
 
 # a second view change, and beats that say again what was lost
-LONG = f"""{CHANGE}drain 40
-beat USD
-timer s2
-drain 40
-beat s2
-beat s1
-beat s0
-drain 40
-"""
+LONG = f"{CHANGE}drain 40\nbeat USD\ntimer s2\ndrain 40\nbeat s2\nbeat s1\nbeat s0\ndrain 40\n"
 
 # the site crashes behind the rows that it lacks, and recovers
-BEHIND = f"""{CHANGE}drain 7
-crash s2
-restart s2
-drain 40
-"""
+BEHIND = f"{CHANGE}drain 7\ncrash s2\nrestart s2\ndrain 40\n"
 
 
 def in_steps(script):
@@ -57,21 +37,14 @@ class Crashes(Runs):
 
     def test_a_pay_in_is_executed_by_all(self):
         """It takes ten envelopes."""
-        self.shows(PLAY, "payin ALFA USD 100\ndrain 40\nbeat s0\ndrain 40\nprint\ndeliver 10\ndeliver 11\n", [
-            "site 0 normal view 0 log 1 done 1 cell 0",
-            "  ALFA 0 100 0",
-            "site 1 normal view 0 log 1 done 1 cell 0",
-            "  ALFA 0 100 0",
-            "site 2 normal view 0 log 1 done 1 cell 0",
-            "  ALFA 0 100 0",
-            "refused 7 G1",
-        ])
+        books = [line for site in range(3) for line in (f"site {site} normal view 0 log 1 done 1 cell 0", "  ALFA 0 100 0")]
+        script = "payin ALFA USD 100\ndrain 40\nbeat s0\ndrain 40\nprint\ndeliver 10\ndeliver 11\n"
+        self.shows(PLAY, script, [*books, "refused 7 G1"])
 
     def test_a_site_that_was_cut_off_recovers(self):
         """It takes the primary's log and commit number; the other backup has not heard yet that the last row is committed."""
-        stands = "site 2 normal view 0 log 0 done 0 cell 0"
         self.shows(PLAY, f"{CHANGE}drain 7\nprint\ncrash s2\ndeliver 38\nrestart s2\ndrain 40\nprint\n", [
-            stands,
+            "site 2 normal view 0 log 0 done 0 cell 0",
             "refused 13 S3",
             "site 0 normal view 1 log 4 done 3 cell 0",
             "  ALFA 0 600 0",

@@ -25,12 +25,7 @@ class Lines(Explained):
             ("do @65536 settle 1", 1, "L4", '"@65536" is too large a number: above 65535'),
             ("do ALFA instruct 4294967296 BETA USD 1 @256 -1", 1, "L4", '"4294967296" is too large a number: above 4294967295'),
             ("do ALFA instruct 4294967295 BETA USD 1 @256 -1", 1, "L4", '"@256" is too large a number: above 255'),
-            (
-                "do OP fund USD 0 ALFA 18446744073709551616",
-                1,
-                "L4",
-                '"18446744073709551616" is too large a number: above 18446744073709551615',
-            ),
+            (f"do OP fund USD 0 ALFA {2**64}", 1, "L4", f'"{2**64}" is too large a number: above {2**64 - 1}'),
             ("do USD paid USD +1", 1, "L4", '"+1" is no number: a byte that is no digit'),
         ])
 
@@ -94,15 +89,11 @@ class Lines(Explained):
         ])
 
     def test_a_count_of_words(self):
+        long = "do ALFA instruct 1 BETA USD 1 EUR 1 please"
         self.tells_lines(BOOK, [
             ("print x\n", 1, "L3", "too many words, the form has 1: print x"),
             ("do ALFA  payout USD\n", 1, "L3", "too few words, the form has 5: do ALFA  payout USD"),
-            (
-                "do ALFA instruct 1 BETA USD 1 EUR 1 please",
-                1,
-                "L3",
-                "too many words, the form has 9: do ALFA instruct 1 BETA USD 1 EUR 1 please",
-            ),
+            (long, 1, "L3", f"too many words, the form has 9: {long}"),
             ("do ALFA\n", 1, "L3", "too few words: do ALFA"),
             ("do\n", 1, "L3", "too few words: do"),
         ])
@@ -142,6 +133,10 @@ def member(name, aggregate=0, short="0", deposit="0"):
     return f'{{"name":"{name}","aggregate":{aggregate},"short":[{short}],"deposit":[{deposit}]}}'
 
 
+def setup_of(currencies, members):
+    return f'{{"sites":3,"currencies":[{currencies}],"members":[{members}]}}'
+
+
 # what is told of a part that is to be a number
 NO_NUMBER = "no number in digits alone, below 2^64"
 
@@ -150,32 +145,22 @@ ALFA = member("ALFA", 10**18, 10**18, 10**15)
 
 
 class Setups(Explained):
-    def tells_setup(self, setup, fault, more):
+    def tells_setup(self, setup, code, told):
         """The same is told by each command that reads a setup."""
+        fault = f"fault {'json' if code[0] == 'J' else 'setup'} {code}\n"
         for words in (BOOK, PLAY, TRACE):
-            self.explains(words, setup, "print", fault, more)
-        self.tells(["check", "--explain", "setup.json"], fault + more, setup)
-
-    def tells_parts(self, cases):
-        """Setups of three sites with such currencies and members."""
-        for currencies, members, code, told in cases:
-            setup = f'{{"sites":3,"currencies":[{currencies}],"members":[{members}]}}'
-            self.tells_setup(setup, f"fault setup {code}\n", f"{told}\n")
+            self.explains(words, setup, "print", fault, f"{told}\n")
+        self.tells(["check", "--explain", "setup.json"], f"{fault}{told}\n", setup)
 
     def test_a_text_that_is_no_setup(self):
-        self.tells_setup('{"sites":3', "fault json J1\n", "setup: the text is no JSON\n")
-        self.tells_setup('{"sites":3}', "fault json J2\n", "setup: currencies: missing\n")
-        self.tells_setup(FOUR_SITES, "fault setup K1\n", "setup: the sites are not 3, 5 or 7: 4\n")
-        self.tells_setup(TWO_DOLLARS, "fault setup K3\n", 'currency 1 "USD": the code stands twice\n')
-
-    def tells_wrong(self, cases):
-        """Setups that have such a part: the first that is missing or of another type is told."""
-        for setup, told in cases:
-            self.tells_setup(setup, "fault json J2\n", f"setup: {told}\n")
+        self.tells_setup('{"sites":3', "J1", "setup: the text is no JSON")
+        self.tells_setup('{"sites":3}', "J2", "setup: currencies: missing")
+        self.tells_setup(FOUR_SITES, "K1", "setup: the sites are not 3, 5 or 7: 4")
+        self.tells_setup(TWO_DOLLARS, "K3", 'currency 1 "USD": the code stands twice')
 
     def test_a_part_that_is_missing_or_of_another_type(self):
         """Parts are read in this order, and places in lists are counted from 0; other members are ignored."""
-        self.tells_wrong([
+        for setup, told in [
             ("[]", "the text is no object"),
             ('"setup"', "the text is no object"),
             ("{}", "sites: missing"),
@@ -187,86 +172,73 @@ class Setups(Explained):
             ('{"members":5,"currencies":{},"sites":3,"site":null}', "currencies: no list"),
             ('{"sites":3,"currencies":[]}', "members: missing"),
             ('{"sites":3,"currencies":[],"members":"ALFA"}', "members: no list"),
-        ])
+        ]:
+            self.tells_setup(setup, "J2", f"setup: {told}")
 
     def test_a_part_of_a_currency(self):
-        self.tells_wrong([
-            (f'{{"sites":3,"currencies":[{currencies}],"members":[{ALFA}]}}', told)
-            for currencies, told in [
-                ("null", "currencies[0]: no object"),
-                (f"{currency('USD')},{currency('EUR')},[]", "currencies[2]: no object"),
-                ('{"rate":1,"haircut":0}', "currencies[0].code: missing"),
-                (f"{currency('USD')},{{\"code\":7,\"rate\":null}}", "currencies[1].code: no text"),
-                ('{"code":"USD","haircut":-1}', "currencies[0].rate: missing"),
-                (currency("USD", rate="1.5"), f"currencies[0].rate: {NO_NUMBER}"),
-                (currency("USD", haircut='"0"'), f"currencies[0].haircut: {NO_NUMBER}"),
-            ]
-        ])
+        for currencies, told in [
+            ("null", "currencies[0]: no object"),
+            (f"{currency('USD')},{currency('EUR')},[]", "currencies[2]: no object"),
+            ('{"rate":1,"haircut":0}', "currencies[0].code: missing"),
+            (f"{currency('USD')},{{\"code\":7,\"rate\":null}}", "currencies[1].code: no text"),
+            ('{"code":"USD","haircut":-1}', "currencies[0].rate: missing"),
+            (currency("USD", rate="1.5"), f"currencies[0].rate: {NO_NUMBER}"),
+            (currency("USD", haircut='"0"'), f"currencies[0].haircut: {NO_NUMBER}"),
+        ]:
+            self.tells_setup(setup_of(currencies, ALFA), "J2", f"setup: {told}")
 
     def test_a_part_of_a_member(self):
-        self.tells_wrong([
-            (f'{{"sites":3,"currencies":[{currency("USD")}],"members":[{members}]}}', told)
-            for members, told in [
-                ('"ALFA"', "members[0]: no object"),
-                ("{}", "members[0].name: missing"),
-                (f'{ALFA},{{"name":["BETA"]}}', "members[1].name: no text"),
-                (",".join([ALFA] * 12) + ',{"name":"BETA","short":0}', "members[12].aggregate: missing"),
-                (member("ALFA", aggregate="true"), f"members[0].aggregate: {NO_NUMBER}"),
-                ('{"name":"ALFA","aggregate":0,"short":0,"deposit":0}', "members[0].short: no list"),
-                (member("ALFA", short="0,1e2", deposit="null"), f"members[0].short[1]: {NO_NUMBER}"),
-                (f"{ALFA},{member('BETA', deposit='1,2,-0')}", f"members[1].deposit[2]: {NO_NUMBER}"),
-                ('{"name":"ALFA","aggregate":0,"short":[]}', "members[0].deposit: missing"),
-            ]
-        ])
+        for members, told in [
+            ('"ALFA"', "members[0]: no object"),
+            ("{}", "members[0].name: missing"),
+            (f'{ALFA},{{"name":["BETA"]}}', "members[1].name: no text"),
+            (",".join([ALFA] * 12) + ',{"name":"BETA","short":0}', "members[12].aggregate: missing"),
+            (member("ALFA", aggregate="true"), f"members[0].aggregate: {NO_NUMBER}"),
+            ('{"name":"ALFA","aggregate":0,"short":0,"deposit":0}', "members[0].short: no list"),
+            (member("ALFA", short="0,1e2", deposit="null"), f"members[0].short[1]: {NO_NUMBER}"),
+            (f"{ALFA},{member('BETA', deposit='1,2,-0')}", f"members[1].deposit[2]: {NO_NUMBER}"),
+            ('{"name":"ALFA","aggregate":0,"short":[]}', "members[0].deposit: missing"),
+        ]:
+            self.tells_setup(setup_of(currency("USD"), members), "J2", f"setup: {told}")
 
     def test_a_currency_that_breaks_a_rule(self):
         """Currencies are numbered from 0, and a code that is no printed text is not shown."""
         no_code = "the code is not three letters A to Z"
-        self.tells_parts([
+        rates = f"{currency('USD', rate=1000000)},{currency('EUR', rate=1000001)},{currency('JPY', rate=0)}"
+        haircuts = f"{currency('USD', haircut=9999)},{currency('EUR', haircut=10000)}"
+        for currencies, members, code, told in [
             ("", "", "K2", "setup: the currencies are not 1 to 8: 0"),
             (f"{currency('USD')},{currency('usd', rate=0)}", ALFA, "K3", f'currency 1 "usd": {no_code}'),
             (currency("U\\u0007D"), ALFA, "K3", f"currency 0: {no_code}"),
             (currency(""), ALFA, "K3", f"currency 0: {no_code}"),
-            (
-                f"{currency('USD', rate=1000000)},{currency('EUR', rate=1000001)},{currency('JPY', rate=0)}",
-                ALFA,
-                "K4",
-                'currency 1 "EUR": the rate is not 1 to 1000000: 1000001',
-            ),
-            (
-                f"{currency('USD', haircut=9999)},{currency('EUR', haircut=10000)}",
-                ALFA,
-                "K5",
-                'currency 1 "EUR": the haircut is not 0 to 9999: 10000',
-            ),
-        ])
+            (rates, ALFA, "K4", 'currency 1 "EUR": the rate is not 1 to 1000000: 1000001'),
+            (haircuts, ALFA, "K5", 'currency 1 "EUR": the haircut is not 0 to 9999: 10000'),
+        ]:
+            self.tells_setup(setup_of(currencies, members), code, told)
 
     def test_a_member_that_breaks_a_rule(self):
         """Members are numbered from 1."""
-        dollars, no_name = currency("USD"), "the name is not 1 to 8 of A to Z and digits, a letter first"
-        self.tells_parts([
-            (dollars, "", "K6", "setup: the members are not 1 to 64: 0"),
-            (dollars, member("alfa"), "K7", f'member 1 "alfa": {no_name}'),
-            (dollars, member("ALFABRAVO"), "K7", f'member 1 "ALFABRAVO": {no_name}'),
-            (dollars, f"{ALFA},{member('1ALFA')}", "K7", f'member 2 "1ALFA": {no_name}'),
-            (dollars, f"{ALFA},{ALFA}", "K7", 'member 2 "ALFA": the name stands twice'),
-            (dollars, member("OP"), "K7", 'member 1 "OP": the name is OP'),
-            (dollars, member("USD"), "K7", 'member 1 "USD": the name is a currency\'s code'),
-        ])
+        no_name = "the name is not 1 to 8 of A to Z and digits, a letter first"
+        for members, code, told in [
+            ("", "K6", "setup: the members are not 1 to 64: 0"),
+            (member("alfa"), "K7", f'member 1 "alfa": {no_name}'),
+            (member("ALFABRAVO"), "K7", f'member 1 "ALFABRAVO": {no_name}'),
+            (f"{ALFA},{member('1ALFA')}", "K7", f'member 2 "1ALFA": {no_name}'),
+            (f"{ALFA},{ALFA}", "K7", 'member 2 "ALFA": the name stands twice'),
+            (member("OP"), "K7", 'member 1 "OP": the name is OP'),
+            (member("USD"), "K7", 'member 1 "USD": the name is a currency\'s code'),
+        ]:
+            self.tells_setup(setup_of(currency("USD"), members), code, told)
 
     def test_a_limit_that_breaks_a_rule(self):
         for second, code, told in [
             (member("BETA", short="0,0"), "K8", "the short limits are not one for each currency: 2"),
             (member("BETA", deposit=""), "K8", "the deposits are not one for each currency: 0"),
             (member("BETA", 10**18 + 1), "K9", "the aggregate limit is not 0 to 1000000000000000000: 1000000000000000001"),
-            (
-                member("BETA", 0, 10**18 + 1, 10**15 + 1),
-                "K9",
-                "a short limit is not 0 to 1000000000000000000: 1000000000000000001",
-            ),
+            (member("BETA", 0, 10**18 + 1, 10**15 + 1), "K9", "a short limit is not 0 to 1000000000000000000: 1000000000000000001"),
             (member("BETA", deposit=10**15 + 1), "K9", "a deposit is not 0 to 1000000000000000: 1000000000000001"),
         ]:
-            self.tells_parts([(currency("USD"), f"{ALFA},{second}", code, f'member 2 "BETA": {told}')])
+            self.tells_setup(setup_of(currency("USD"), f"{ALFA},{second}"), code, f'member 2 "BETA": {told}')
 
 
 class Unread(Explained):

@@ -1,16 +1,12 @@
 """Audits of journals that are spelled here byte by byte, from the page that describes them."""
 import hashlib
 import itertools
-import os
 import struct
-import sys
 from typing import NamedTuple
 
-sys.path.append(os.path.join(os.path.dirname(os.path.abspath(__file__)), ".."))
-
-import journal_bytes  # noqa: E402
-from plays import NEW_SITE  # noqa: E402
-from program import FOUR_SITES, SETUP, Runs  # noqa: E402
+from program import FOUR_SITES, NEW_SITE, SETUP, Runs, books  # it says where the next modules are
+import journal_bytes
+from journal_bytes import frame
 
 LIFE = bytes(range(16))
 CLIENTS, NODES, SITES = [0, 1, 2], [101, 102, 103], [200, 201, 202]
@@ -20,10 +16,7 @@ ALL = CLIENTS + NODES + SITES
 TIMER, BEAT, CRASH, RESTART = b"\2", b"\3", b"\4", b"\5"
 NODE_BEAT = b"\7"
 
-NEW_NODES = "".join(
-    f"node {code} account 0 payins 0 payouts 0\n" + "".join(f"  site {site} figure 0 way 0\n" for site in range(3))
-    for code in ("EUR", "USD", "JPY")
-)
+SAYS_NOTHING = "a record says nothing that its actor may do"
 
 
 class Sent(NamedTuple):
@@ -41,6 +34,7 @@ class Sent(NamedTuple):
 
 
 SENT_NOTHING = Sent()
+CRASHED = (5, CRASH, SENT_NOTHING)
 
 
 def payin(member, amount):
@@ -53,12 +47,6 @@ def node_refused(number):
 
 def fell(number, boots):
     return bytes([3, number]) + struct.pack(">I", boots)
-
-
-def frame(kind, actor, clock, to, body, place=0):
-    """A frame of the envelope that an actor sent at a clock, of so many before it."""
-    text = struct.pack(">BBHQIH", 2, kind, actor, clock, place, to) + body
-    return struct.pack(">I", len(text)) + text
 
 
 def funds(amount):
@@ -94,19 +82,18 @@ class Audits(Runs):
         bodies = [struct.pack(">Q", clock) + event + spelled(outcome) for clock, event, outcome in events]
         return journal_bytes.journal(head(actor, **{"version": self.version, **of}), bodies)
 
-    def bank(self, **changed):
-        """The journals of a bank that did nothing, but for some that are others, or are not there."""
-        files = {name(actor): self.journal(actor) for actor in ALL}
-        files.update({name(int(key[1:])): text for key, text in changed.items()})
-        return {key: text for key, text in files.items() if text is not None}
+    def bank(self, changed=None):
+        """The journals of a bank that did nothing, but for those of some actors that are others, or are not there."""
+        texts = {**{actor: self.journal(actor) for actor in ALL}, **(changed or {})}
+        return {name(actor): text for actor, text in texts.items() if text is not None}
 
     def paid_in(self, paid=100, sent=100, came=100, node=None, site=None):
         """The journals of a bank at whose node of USD ALFA pays in. It sends that to all sites, and site 0 takes what came and sends it on.
         How these two came out may be another."""
-        return self.bank(
-            _102=self.journal(102, (1, payin(1, paid), node or Sent(funds(sent)))),
-            _200=self.journal(200, (2, b"\1" + funds(came)[0], site or Sent(prepares(came)))),
-        )
+        return self.bank({
+            102: self.journal(102, (1, payin(1, paid), node or Sent(funds(sent)))),
+            200: self.journal(200, (2, b"\1" + funds(came)[0], site or Sent(prepares(came)))),
+        })
 
     def audits(self, files, want, *words, order=None):
         """Audits the journals of these files, in this order, and compares the status, what was printed and what was told."""
@@ -132,46 +119,36 @@ class Journals(Audits):
 
     def test_a_bank_that_did_nothing(self):
         """In whatever order its journals stand, and as a script."""
-        books = "".join(f"site {site} {NEW_SITE}" for site in range(3)) + NEW_NODES
-        for order in (None, [name(actor) for actor in reversed(ALL)]):
-            self.audits(self.bank(), (0, books + "audit yes\n", ""), order=order)
+        for order in None, [name(actor) for actor in reversed(ALL)]:
+            self.audits(self.bank(), (0, f"{books()}audit yes\n", ""), order=order)
         self.says_yes(self.bank(), "")
 
     def test_what_actors_did(self):
         """Site 1 crashes, and the node of USD refuses a pay-in for a member that is not there, which is no step that was taken."""
-        files = self.bank(
-            _201=self.journal(201, (5, CRASH, SENT_NOTHING)),
-            _102=self.journal(102, (1, payin(9, 100), node_refused(2))),
-        )
-        self.says_yes(files, "crash s1\n")
+        refused = (1, payin(9, 100), node_refused(2))
+        self.says_yes(self.bank({201: self.journal(201, CRASHED), 102: self.journal(102, refused)}), "crash s1\n")
 
     def test_what_actors_sent(self):
         """A pay-in comes to a site, which has a row more then; how much each of the two sent is as it has to be."""
         self.says_yes(self.paid_in(), "payin ALFA USD 100\ndeliver 1\n")
-        way = ["node USD account 100 payins 1 payouts 0", *(f"  site {site} figure 0 way 100" for site in range(3))]
-        new = "".join(f"site {site} {NEW_SITE}" for site in range(3)).replace("log 0", "log 1", 1)
-        nodes = NEW_NODES.replace(NEW_NODES[NEW_NODES.index("node USD"):NEW_NODES.index("node JPY")], "\n".join(way) + "\n")
-        self.audits(self.paid_in(), (0, new + nodes + "audit yes\n", ""))
+        shown = books({0: NEW_SITE.replace("log 0", "log 1")}, 100)
+        self.audits(self.paid_in(), (0, f"{shown}audit yes\n", ""))
 
     def test_sites_that_fell(self):
         """Site 1 crashes, and as it restarts its cell does not save: it holds the new count, or the old one. It cannot hold another, nor
         is this how it falls while it is down already."""
-        crashed = (5, CRASH, SENT_NOTHING)
-        for boots, then in (1, 2), (0, 1):
-            files = self.bank(_201=self.journal(201, crashed, (6, RESTART, fell(2, boots)), (7, BEAT, b"\2\3")))
-            books = "".join(f"site {site} {NEW_SITE}" for site in range(3)).split("site 1 ")
-            down = f"site 1 down cell {boots}\nsite 2 {NEW_SITE}"
-            nodes = "".join(line for line in NEW_NODES.splitlines(True) if not line.startswith("  site 1"))
-            self.audits(files, (0, books[0] + down + nodes + "audit yes\n", ""))
+        for boots in 1, 0:
+            files = self.bank({201: self.journal(201, CRASHED, (6, RESTART, fell(2, boots)), (7, BEAT, b"\2\3"))})
+            self.audits(files, (0, books({1: f"down cell {boots}\n"}) + "audit yes\n", ""))
         for event, outcome in (RESTART, fell(2, 2)), (RESTART, fell(3, 1)), (BEAT, fell(1, 0)):
-            self.says_no(self.bank(_201=self.journal(201, crashed, (6, event, outcome))), "audit no 201 2 A3\n")
+            self.says_no(self.bank({201: self.journal(201, CRASHED, (6, event, outcome))}), "audit no 201 2 A3\n")
 
     def test_each_test_fails(self):
         """A delivery that nobody sent, a clock that stands still, and an outcome that is another."""
         commit = frame(4, 200, 3, 201, struct.pack(">IH", 0, 0))
-        self.says_no(self.bank(_201=self.journal(201, (5, b"\1" + commit, SENT_NOTHING))), "audit no 201 1 A1\n")
-        self.says_no(self.bank(_201=self.journal(201, (5, CRASH, SENT_NOTHING), (5, CRASH, b"\2\3"))), "audit no 201 2 A2\n")
-        self.says_no(self.bank(_102=self.journal(102, (1, payin(9, 100), node_refused(1)))), "audit no 102 1 A3\n")
+        self.says_no(self.bank({201: self.journal(201, (5, b"\1" + commit, SENT_NOTHING))}), "audit no 201 1 A1\n")
+        self.says_no(self.bank({201: self.journal(201, CRASHED, (5, CRASH, b"\2\3"))}), "audit no 201 2 A2\n")
+        self.says_no(self.bank({102: self.journal(102, (1, payin(9, 100), node_refused(1)))}), "audit no 102 1 A3\n")
 
     def test_an_outcome_that_is_another(self):
         """A node and a site sent more or less than comes of what they took, or it was dropped, or they refused it, or it was of another
@@ -185,8 +162,8 @@ class Journals(Audits):
 
     def test_an_event_of_another_kind(self):
         """The beat of a node comes to a site, which does nothing, and that is no step; it did not send nothing at it."""
-        self.says_yes(self.bank(_200=self.journal(200, (5, NODE_BEAT, b"\x08"))), "")
-        self.says_no(self.bank(_200=self.journal(200, (5, NODE_BEAT, SENT_NOTHING))), "audit no 200 1 A3\n")
+        self.says_yes(self.bank({200: self.journal(200, (5, NODE_BEAT, b"\x08"))}), "")
+        self.says_no(self.bank({200: self.journal(200, (5, NODE_BEAT, SENT_NOTHING))}), "audit no 200 1 A3\n")
 
     def test_a_delivery_that_is_another(self):
         """Another amount came to site 0 than the node sent."""
@@ -200,7 +177,7 @@ class Journals(Audits):
     def test_a_journal_without_its_end(self):
         """Site 0's journal lacks the event at which it sent what site 1 took: without the cut that is no run, with it it is."""
         commit = frame(4, 200, 3, 201, struct.pack(">IH", 0, 0))
-        lost = self.bank(_201=self.journal(201, (2, CRASH, SENT_NOTHING), (5, b"\1" + commit, b"\2\3"), (6, CRASH, b"\2\3")))
+        lost = self.bank({201: self.journal(201, (2, CRASH, SENT_NOTHING), (5, b"\1" + commit, b"\2\3"), (6, CRASH, b"\2\3"))})
         self.says_no(lost, "audit no 201 2 A1\n")
         self.says_yes(lost, "crash s1\n", "s1: 2 of 3 events are cut off\n", "--cut")
         # what a sender's journal comes to is not cut, and what it does not have then stays wrong
@@ -208,21 +185,19 @@ class Journals(Audits):
         self.says_no(forged, "audit no 201 2 A1\n", "--cut")
         # nor is a sender cut that has what came
         self.says_yes(self.paid_in(), "payin ALFA USD 100\ndeliver 1\n", "", "--cut")
-        told = "s0: 1 of 1 events are cut off\n"
-        self.says_yes({**self.paid_in(), name(102): self.journal(102)}, "", told, "--cut")
+        self.says_yes({**self.paid_in(), name(102): self.journal(102)}, "", "s0: 1 of 1 events are cut off\n", "--cut")
 
     def test_a_torn_record_is_told(self):
         """Its bytes are a front of a record, which is left out."""
-        whole = self.journal(201, (5, CRASH, SENT_NOTHING))
-        for left in (len(whole) - 1, len(head(201)) + 1):
-            told = f"journal 8 is torn at byte {len(head(201))}\n"
-            self.says_yes(self.bank(_201=whole[:left]), "", told)
+        whole = self.journal(201, CRASHED)
+        for left in len(whole) - 1, len(head(201)) + 1:
+            self.says_yes(self.bank({201: whole[:left]}), "", f"journal 8 is torn at byte {len(head(201))}\n")
 
     def test_damaged_journals(self):
-        whole = self.journal(201, (5, CRASH, SENT_NOTHING), (6, TIMER, SENT_NOTHING))
-        first, second = len(head(201)), len(self.journal(201, (5, CRASH, SENT_NOTHING)))
+        whole = self.journal(201, CRASHED, (6, TIMER, SENT_NOTHING))
+        first, second = len(head(201)), len(self.journal(201, CRASHED))
         flipped = lambda at: whole[:at] + bytes([whole[at] ^ 1]) + whole[at + 1:]
-        for text, code, at, why in [
+        rows = [
             (b"", "M1", 0, "the bytes do not begin with PVPJ"),
             (b"PVPK" + whole[4:], "M1", 0, "the bytes do not begin with PVPJ"),
             (b"PVPJ\0" + whole[5:], "M2", 0, "the version is neither 1 nor 2"),
@@ -232,35 +207,34 @@ class Journals(Audits):
             (flipped(first + 5), "M4", first, "a record's length does not have its complement behind it"),
             (flipped(second - 9), "M5", first, "a record has another checksum"),
             (flipped(second + 20), "M5", second, "a record has another checksum"),
-            (self.journal(201, (5, b"\x0d", SENT_NOTHING)), "M6", first, "a record says nothing that its actor may do"),
-            (self.journal(201, (5, CRASH, b"\x0a\0\0")), "M6", first, "a record says nothing that its actor may do"),
-            (self.journal(201, (5, CRASH, b"\x09\0")), "M6", first, "a record says nothing that its actor may do"),
-            (self.journal(201, (5, CRASH, b"\x09\0\7")), "M6", first, "a record says nothing that its actor may do"),
-            (self.journal(201, (5, CRASH, b"\x09\0\0\0")), "M6", first, "a record says nothing that its actor may do"),
-            (self.journal(201, (5, CRASH, b"\1" + bytes(4) + b"\7")), "M6", first, "a record says nothing that its actor may do"),
-        ]:
-            self.faults(self.bank(_201=text), f"fault journal 8 {code} {at}\n", f'journal "201.journal": {why}\n')
+            (self.journal(201, (5, b"\x0d", SENT_NOTHING)), "M6", first, SAYS_NOTHING),
+        ]
+        for outcome in b"\x0a\0\0", b"\x09\0", b"\x09\0\7", b"\x09\0\0\0", b"\1" + bytes(4) + b"\7":
+            rows.append((self.journal(201, (5, CRASH, outcome)), "M6", first, SAYS_NOTHING))
+        for text, code, at, why in rows:
+            self.faults(self.bank({201: text}), f"fault journal 8 {code} {at}\n", f'journal "201.journal": {why}\n')
 
     def test_journals_of_no_one_bank(self):
-        for files, order, fault, why in [
-            (self.bank(_200=self.journal(200, setup=FOUR_SITES)), None, "journal 7 V1", "the journal is of a bank whose setup has another text"),
-            (self.bank(_200=self.journal(200, life=bytes(16))), None, "journal 7 V2", "the journal is of another life of the bank than one before it"),
-            (self.bank(_200=self.journal(203)), None, "journal 7 V3", "the bank has no such actor, or it opened over what such an actor does not"),
-            (self.bank(_200=self.journal(200, opening=b"\0")), None, "journal 7 V3", "the bank has no such actor, or it opened over what such an actor does not"),
-            (self.bank(_200=self.journal(202)), None, "journal 9 V4", "a journal before it is the same actor's"),
+        for text, fault, why in [
+            (self.journal(200, setup=FOUR_SITES), "journal 7 V1", "the journal is of a bank whose setup has another text"),
+            (self.journal(200, life=bytes(16)), "journal 7 V2", "the journal is of another life of the bank than one before it"),
+            (self.journal(203), "journal 7 V3", "the bank has no such actor, or it opened over what such an actor does not"),
+            (self.journal(200, opening=b"\0"), "journal 7 V3", "the bank has no such actor, or it opened over what such an actor does not"),
+            (self.journal(202), "journal 9 V4", "a journal before it is the same actor's"),
         ]:
+            files = self.bank({200: text})
             place = int(fault.split()[1])
-            self.faults(files, f"fault {fault}\n", f'journal "{list(files)[place - 1]}": {why}\n', order)
+            self.faults(files, f"fault {fault}\n", f'journal "{[*files][place - 1]}": {why}\n')
         for actor in (103, 201):
-            self.faults(self.bank(**{f"_{actor}": None}), f"fault actor {actor} V5\n", f"actor {actor}: no journal is the actor's\n")
+            self.faults(self.bank({actor: None}), f"fault actor {actor} V5\n", f"actor {actor}: no journal is the actor's\n")
 
     def test_journals_of_some_clients(self):
         """Who has none is taken to have asked for nothing, and named, behind the faults of the others; what another sent is missing."""
-        for actors, told in ((0,), "not seen: OP\n"), ((2,), "not seen: BETA\n"), ((0, 1, 2), "not seen: OP\nnot seen: ALFA\nnot seen: BETA\n"):
-            self.says_yes(self.bank(**{f"_{actor}": None for actor in actors}), "", told)
-            self.audits(self.bank(_200=None, **{f"_{actor}": None for actor in actors}), (1, "", "fault actor 200 V5\n"))
+        for actors in {0: "OP"}, {2: "BETA"}, {0: "OP", 1: "ALFA", 2: "BETA"}:
+            self.says_yes(self.bank(dict.fromkeys(actors)), "", "".join(f"not seen: {it}\n" for it in actors.values()))
+            self.audits(self.bank(dict.fromkeys([*actors, 200])), (1, "", "fault actor 200 V5\n"))
         asked = frame(1, 1, 2, 200, funds(100)[0][22:])
-        files = self.bank(_1=None, _200=self.journal(200, (3, b"\1" + asked, SENT_NOTHING)))
+        files = self.bank({1: None, 200: self.journal(200, (3, b"\1" + asked, SENT_NOTHING))})
         self.audits(files, (3, "audit no 200 1 A1\n", "not seen: ALFA\n"))
 
 
@@ -278,11 +252,11 @@ class FirstJournals(Journals):
 
     def test_what_was_sent_by_another(self):
         """Each envelope that was sent has the stamp of its record."""
-        wrong = [funds(100)[1:], (frame(1, 102, 2, 200, funds(100)[0][22:]),), (frame(1, 101, 1, 200, funds(100)[0][22:]),)]
-        for sent in wrong:
+        row = funds(100)[0][22:]
+        for sent in funds(100)[1:], (frame(1, 102, 2, 200, row),), (frame(1, 101, 1, 200, row),):
             text = self.journal(102, (1, payin(1, 100), Sent(sent)))
-            fault = f"fault journal 5 M6 {len(head(102))}\n"
-            self.faults(self.bank(_102=text), fault, 'journal "102.journal": a record says nothing that its actor may do\n')
+            why = f'journal "102.journal": {SAYS_NOTHING}\n'
+            self.faults(self.bank({102: text}), f"fault journal 5 M6 {len(head(102))}\n", why)
 
 
 class MixedJournals(Audits):
@@ -295,9 +269,9 @@ class MixedJournals(Audits):
         for opened, one, two in itertools.product((1, 2), repeat=3):
             paid = (1, payin(1, 100), first.text(102, one))
             node = self.journal(102, paid, (2, NODE_BEAT, again.text(102, two)), version=opened)
-            self.says_yes(self.bank(_102=node), "payin ALFA USD 100\nbeat USD\n")
+            self.says_yes(self.bank({102: node}), "payin ALFA USD 100\nbeat USD\n")
             wrong = self.journal(102, paid, (2, NODE_BEAT, Sent(again.frames[:2]).text(102, two)), version=opened)
-            self.says_no(self.bank(_102=wrong), "audit no 102 2 A3\n")
+            self.says_no(self.bank({102: wrong}), "audit no 102 2 A3\n")
 
     def test_a_bank_of_both(self):
         """The journal of one of its actors is of the one version, and those of all others of the other."""
@@ -314,7 +288,7 @@ class Files(Audits):
 
     def test_files_that_are_not_there(self):
         files = [name(actor) for actor in ALL]
-        self.faults(self.bank(_103=None), "fault file\n", 'journal "103.journal": there is no such file\n', files)
+        self.faults(self.bank({103: None}), "fault file\n", 'journal "103.journal": there is no such file\n', files)
         self.has_no_form(["audit", "setup.json"], "<journal>")
         self.ends(["audit", "setup.json", "x"], (1, "", "fault setup K1\n"), FOUR_SITES)
 
@@ -322,8 +296,6 @@ class Files(Audits):
         """A folder that cannot be made is told before the run, and one that has a journal already stays as it is."""
         words = ["live", "setup.json", "script.txt", "--journal"]
         self.ends([*words, "setup.json/x"], (1, "", "fault journals V7\n"))
-        self.ends(
-            [*words, "/proc/none", "--explain"],
-            (1, "", "fault journals V7\nfolder: a file or its folder could not be made or written\n"),
-        )
+        why = "folder: a file or its folder could not be made or written"
+        self.ends([*words, "/proc/none", "--explain"], (1, "", f"fault journals V7\n{why}\n"))
         self.ends([*words, "."], (1, "", "fault journals V8\n"))

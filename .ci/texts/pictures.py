@@ -124,32 +124,14 @@ class Pictures(Runs):
 
     def test_words_that_ask_for_no_steps(self):
         """They are told on standard error, with status 2, before any file is read."""
-        for words in [
-            ["--from", "1"],
-            ["--to", "1"],
-            ["--from", "1", "--to", "1"],
-            ["--svg", "--from", "0"],
-            ["--svg", "--to", "0"],
-            ["--svg", "--from", "3", "--to", "2"],
-            ["--svg", "--from", "01"],
-            ["--svg", "--to", "02"],
-            ["--svg", "--from", ""],
-            ["--svg", "--from", "x"],
-            ["--svg", "--to", "+2"],
-            ["--svg", "--from", "4294967296"],
-            ["--svg", "--to", "4294967296"],
-            ["--svg", "--from"],
-            ["--svg", "--from", "1", "--from", "2"],
-            ["--svg", "--svg"],
-            ["--svg", "7"],
-            ["--title", "T"],
-            ["--only", "s0"],
-            ["--hide", "s0"],
-            ["--svg", "--title"],
-            ["--svg", "--only"],
-            ["--svg", "--title", "T", "--title", "U"],
-        ]:
-            self.has_no_form([*TRACE, *words], "error: ", FOUR_SITES, "bad")
+        for words in (
+            "--from 1", "--to 1", "--from 1 --to 1", "--svg --from 0", "--svg --to 0", "--svg --from 3 --to 2", "--svg --from 01",
+            "--svg --to 02", "--svg --from=", "--svg --from x", "--svg --to +2", "--svg --from 4294967296", "--svg --to 4294967296",
+            "--svg --from", "--svg --from 1 --from 2", "--svg --svg", "--svg 7", "--title T", "--only s0", "--hide s0", "--svg --title",
+            "--svg --only", "--svg --title T --title U",
+        ):
+            self.has_no_form([*TRACE, *words.split()], "error: ", FOUR_SITES, "bad")
+        self.has_no_form([*PICTURE, "--from", ""], "error: ", FOUR_SITES, "bad")
 
     def test_faults(self):
         """They are told as of a trace, and nothing is written."""

@@ -1,65 +1,28 @@
 """Plays: what is printed of worked scripts, line by line, and that chaos keeps every account. Traces: each step with what came of
 it and what it sent."""
-import itertools
 import re
 
-from program import PLAY, SETUP, TRACE, Runs, adds_up, of_sites
-
-NEW_SITE = """normal view 0 log 0 done 0 cell 0
-  ALFA 0 0 0
-  BETA 0 0 0
-  pairs 0 0 0 0
-  figure 0 0 0
-  open 0
-"""
+from program import PLAY, TRACE, Runs, adds_up, books, delivers, node, of_sites, sent
 
 # a pay-out is ordered of an account that is closed
-CLOSED = """payin ALFA USD 1200
-drain 100
-beat s0
-drain 100
-close ALFA USD
-do ALFA payout USD 200
-drain 100
-beat s0
-"""
+CLOSED = "payin ALFA USD 1200\ndrain 100\nbeat s0\ndrain 100\nclose ALFA USD\ndo ALFA payout USD 200\ndrain 100\nbeat s0\n"
 
 
 class Plays(Runs):
     def test_a_new_world(self):
-        sites = "".join(f"site {site} {NEW_SITE}" for site in range(3))
-        ways = "".join(f"  site {site} figure 0 way 0\n" for site in range(3))
-        nodes = "".join(f"node {code} account 0 payins 0 payouts 0\n{ways}" for code in ("EUR", "USD", "JPY"))
-        self.prints(PLAY, sites + nodes, script="print\n")
+        self.prints(PLAY, books(), script="print\n")
 
     def test_an_empty_play(self):
         self.prints(PLAY, "")
 
     def test_refused_steps(self):
-        script = """do ALFA payout USD 5
-do ALFA payout USD 6
-timer s9
-deliver 99
-cut @9
-heal s3
-payin ALFA USD 10001
-close ALFA USD
-close ALFA USD
-crash s1
-beat s1
-restart s0
-"""
-        text = """refused 2 G3
-refused 3 G2
-refused 4 G1
-refused 5 G2
-refused 6 G2
-refused 7 N1
-refused 9 N7
-refused 11 S3
-refused 12 S4
-"""
-        self.prints(PLAY, text, script=script)
+        steps = [
+            ("do ALFA payout USD 5", None), ("do ALFA payout USD 6", "G3"), ("timer s9", "G2"), ("deliver 99", "G1"), ("cut @9", "G2"),
+            ("heal s3", "G2"), ("payin ALFA USD 10001", "N1"), ("close ALFA USD", None), ("close ALFA USD", "N7"), ("crash s1", None),
+            ("beat s1", "S3"), ("restart s0", "S4"),
+        ]
+        refused = "".join(f"refused {line} {code}\n" for line, (_, code) in enumerate(steps, 1) if code)
+        self.prints(PLAY, refused, script="".join(f"{step}\n" for step, _ in steps))
 
     def test_faults(self):
         self.tells(PLAY, "fault line 1 L5\n", script="do USD payout USD 1")
@@ -67,138 +30,51 @@ refused 12 S4
         self.tells(PLAY, "fault line 2 L4\n", script="print\ntimer @200")
 
     def test_a_vote_binds_though_it_was_forgotten(self):
-        script = """timer s2
-timer s2
-crash s2
-restart s2
-deliver 5
-deliver 6
-deliver 7
-deliver 8
-deliver 4
-print
-payin ALFA USD 1
-deliver 9
-deliver 12
-deliver 14
-print
-"""
+        script = f"timer s2\ntimer s2\ncrash s2\nrestart s2\n{delivers(5, 6, 7, 8, 4)}print\npayin ALFA USD 1\n{delivers(9, 12, 14)}print\n"
+        new = "normal view 0 log 0 done 0 cell"
         self.shows(PLAY, script, [
-            "site 0 normal view 0 log 0 done 0 cell 0",
-            "site 1 normal view 0 log 0 done 0 cell 0",
-            "site 2 normal view 0 log 0 done 0 cell 1",
-            "site 0 normal view 0 log 1 done 1 cell 0",
-            "site 1 normal view 0 log 1 done 0 cell 0",
-            "site 2 normal view 0 log 0 done 0 cell 1",
+            f"site 0 {new} 0", f"site 1 {new} 0", f"site 2 {new} 1",
+            "site 0 normal view 0 log 1 done 1 cell 0", "site 1 normal view 0 log 1 done 0 cell 0", f"site 2 {new} 1",
         ])
 
     def test_votes_of_an_earlier_boot_are_given_up(self):
-        script = """timer s1
-deliver 1
-deliver 5
-crash s0
-restart s0
-deliver 7
-deliver 2
-deliver 10
-print
-deliver 11
-print
-"""
+        script = f"timer s1\n{delivers(1, 5)}crash s0\nrestart s0\n{delivers(7, 2, 10)}print\n{delivers(11)}print\n"
         self.shows(PLAY, script, [
-            "site 0 recovering cell 1",
-            "site 1 change view 1 log 0 done 0 cell 0",
-            "site 2 change view 1 log 0 done 0 cell 0",
-            "site 0 recovering cell 1",
-            "site 1 normal view 1 log 0 done 0 cell 0",
-            "site 2 change view 1 log 0 done 0 cell 0",
+            "site 0 recovering cell 1", "site 1 change view 1 log 0 done 0 cell 0", "site 2 change view 1 log 0 done 0 cell 0",
+            "site 0 recovering cell 1", "site 1 normal view 1 log 0 done 0 cell 0", "site 2 change view 1 log 0 done 0 cell 0",
         ])
 
     def test_a_request_survives_the_primary(self):
-        script = """payin ALFA USD 500
-deliver 1
-crash s0
-timer s1
-deliver 7
-deliver 9
-deliver 10
-deliver 12
-beat USD
-deliver 14
-deliver 17
-deliver 18
-deliver 19
-beat s1
-deliver 21
-restart s0
-deliver 22
-deliver 23
-deliver 24
-deliver 25
-deliver 4
-print
-"""
+        script = (
+            f"payin ALFA USD 500\n{delivers(1)}crash s0\ntimer s1\n{delivers(7, 9, 10, 12)}beat USD\n"
+            f"{delivers(14, 17, 18, 19)}beat s1\n{delivers(21)}restart s0\n{delivers(22, 23, 24, 25, 4)}print\n"
+        )
         self.shows(PLAY, script, [
             "site 0 normal view 1 log 1 done 1 cell 1",
             "  ALFA 0 500 0",
             "site 1 normal view 1 log 1 done 1 cell 0",
             "site 2 normal view 1 log 1 done 1 cell 0",
-            "node USD account 500 payins 1 payouts 0",
-            "  site 0 figure 500 way 0",
-            "  site 1 figure 500 way 0",
-            "  site 2 figure 500 way 0",
+            *node("USD account 500 payins 1 payouts 0", 500, 500, 500),
         ])
 
     def test_an_order_comes_back_from_a_closed_account(self):
-        script = f"""{CLOSED}print
-drain 100
-deliver 21
-beat s0
-drain 100
-print
-payin ALFA USD 1
-"""
-        books = [[f"site {site} normal view 0 log 3 done 3 cell 0", "  ALFA 0 1200 0", "  open 0"] for site in range(3)]
+        script = f"{CLOSED}print\ndrain 100\n{delivers(21)}beat s0\ndrain 100\nprint\npayin ALFA USD 1\n"
+        sites = [line for site in range(3) for line in (f"site {site} normal view 0 log 3 done 3 cell 0", "  ALFA 0 1200 0", "  open 0")]
         self.shows(PLAY, script, [
-            "node USD account 1200 payins 1 payouts 0",
-            "  site 0 figure 1000 way 200",
-            "  site 1 figure 1200 way 0",
-            "  site 2 figure 1200 way 0",
-            *itertools.chain(*books),
-            "node USD account 1200 payins 1 payouts 0 returned 1",
-            "  site 0 figure 1200 way 0",
-            "  site 1 figure 1200 way 0",
-            "  site 2 figure 1200 way 0",
+            *node("USD account 1200 payins 1 payouts 0", 1000, 1200, 1200),
+            *sites,
+            *node("USD account 1200 payins 1 payouts 0 returned 1", 1200, 1200, 1200),
             "client ALFA 1 order 1",
             "refused 15 N7",
         ])
 
     def test_a_return_survives_the_primary(self):
         """The primary crashes between the order's return and the bank's word of it; the next primary credits the member once."""
-        script = f"""{CLOSED}deliver 21
-crash s0
-drain 100
-timer s1
-drain 100
-beat USD
-drain 100
-beat s1
-drain 100
-print
-"""
-        self.shows(PLAY, script, [
-            "site 0 down cell 0",
-            "site 1 normal view 1 log 3 done 3 cell 0",
-            "  ALFA 0 1200 0",
-            "  open 0",
-            "site 2 normal view 1 log 3 done 3 cell 0",
-            "  ALFA 0 1200 0",
-            "  open 0",
-            "node USD account 1200 payins 1 payouts 0 returned 1",
-            "  site 1 figure 1200 way 0",
-            "  site 2 figure 1200 way 0",
-            "client ALFA 1 order 1",
-        ])
+        turns = "".join(f"drain 100\n{it}\n" for it in ("timer s1", "beat USD", "beat s1"))
+        script = f"{CLOSED}deliver 21\ncrash s0\n{turns}drain 100\nprint\n"
+        sites = [line for site in (1, 2) for line in (f"site {site} normal view 1 log 3 done 3 cell 0", "  ALFA 0 1200 0", "  open 0")]
+        told = node("USD account 1200 payins 1 payouts 0 returned 1", None, 1200, 1200)
+        self.shows(PLAY, script, ["site 0 down cell 0", *sites, *told, "client ALFA 1 order 1"])
 
     def test_chaos_keeps_every_account(self):
         script = "chaos 7 1000\nprint\nchaos 8 1000\nprint\n"
@@ -258,17 +134,14 @@ heal s7
 
 # Site 1 asks by its second count, as the first was saved though it fell; the turns of a drain are steps; envelope 3 is skipped, and
 # the one to the site that is cut off is held back.
-TRACED = """refused 1 G2
+TRACED = f"""refused 1 G2
 1  deliver 1: G1, no envelope has this number
 2  do ALFA payout USD 5
-   1  ALFA -> s0  REQUEST 1 payout USD 5
-   2  ALFA -> s1  REQUEST 1 payout USD 5
-   3  ALFA -> s2  REQUEST 1 payout USD 5
+{sent(1, "ALFA", "s0 s1 s2", "REQUEST 1 payout USD 5")}
 3  do ALFA payout USD 6: G3, the client still waits for an answer
 4  deliver 2 to s1, REQUEST: dropped, another site is the primary
 5  deliver 1 to s0, REQUEST
-   4  s0 -> s1  PREPARE view 0 place 1 done 0 row ALFA 1 payout USD 5
-   5  s0 -> s2  PREPARE view 0 place 1 done 0 row ALFA 1 payout USD 5
+{sent(4, "s0", "s1 s2", "PREPARE view 0 place 1 done 0 row ALFA 1 payout USD 5")}
 6  crash s1
    s1 is down
 7  deliver 4 to s1, PREPARE: S3, the site is down
@@ -278,8 +151,7 @@ TRACED = """refused 1 G2
 11  payin ALFA USD 10001: N1, the account that pays is short
 12  restart s1
    s1 is recovering
-   6  s1 -> s0  RECOVERY nonce 2
-   7  s1 -> s2  RECOVERY nonce 2
+{sent(6, "s1", "s0 s2", "RECOVERY nonce 2")}
 13  deliver 1 to s0, REQUEST: dropped, the site has it already
 14  deliver 2 to s1, REQUEST: dropped, the site's status takes no part in it
 skip 3
@@ -304,15 +176,12 @@ class Traces(Runs):
         """Site 1 is cut off as its REQUEST is next; a drain to the end finds it and the PREPARE to it. Of the three REQUESTs of BETA
         two are skipped, and more than there is are passed over to the end."""
         script = "do ALFA payout USD 5\ncut s1\ncut s1\ndrain 9\nheal s1\nheal s1\ndo BETA payout USD 5\nskip 2\nskip 9\nskip 9\ndrain 9\n"
-        self.prints(TRACE, """1  do ALFA payout USD 5
-   1  ALFA -> s0  REQUEST 1 payout USD 5
-   2  ALFA -> s1  REQUEST 1 payout USD 5
-   3  ALFA -> s2  REQUEST 1 payout USD 5
+        self.prints(TRACE, f"""1  do ALFA payout USD 5
+{sent(1, "ALFA", "s0 s1 s2", "REQUEST 1 payout USD 5")}
 cut s1
 cut s1
 2  deliver 1 to s0, REQUEST
-   4  s0 -> s1  PREPARE view 0 place 1 done 0 row ALFA 1 payout USD 5
-   5  s0 -> s2  PREPARE view 0 place 1 done 0 row ALFA 1 payout USD 5
+{sent(4, "s0", "s1 s2", "PREPARE view 0 place 1 done 0 row ALFA 1 payout USD 5")}
 3  deliver 3 to s2, REQUEST: dropped, another site is the primary
 4  deliver 5 to s2, PREPARE
    6  s2 -> s0  PREPAREOK view 0 place 1
@@ -324,9 +193,7 @@ held back by a cut: 2, 4
 heal s1
 heal s1
 7  do BETA payout USD 5
-   8  BETA -> s0  REQUEST 1 payout USD 5
-   9  BETA -> s1  REQUEST 1 payout USD 5
-   10  BETA -> s2  REQUEST 1 payout USD 5
+{sent(8, "BETA", "s0 s1 s2", "REQUEST 1 payout USD 5")}
 skip 8 to 9
 skip 10
 """, script=script)
@@ -334,7 +201,8 @@ skip 10
     def test_a_turn_of_a_drain_passes_over_what_a_cut_holds_back(self):
         """The first drain ends at the one that it delivers; the second finds only held ones."""
         script = "do ALFA payout USD 5\ncut s0\ndrain 1\ncut s2\ndrain 1\ndrain 1\n"
-        self.shows(TRACE, script, ["cut s0", "2  deliver 2 to s1, REQUEST: dropped, another site is the primary", "held back by a cut: 1", "cut s2", "held back by a cut: 3"])
+        dropped = "2  deliver 2 to s1, REQUEST: dropped, another site is the primary"
+        self.shows(TRACE, script, ["cut s0", dropped, "held back by a cut: 1", "cut s2", "held back by a cut: 3"])
 
     def test_faults(self):
         self.tells(TRACE, "fault line 2 L5\n", script="beat s0\ndo USD payout USD 1")

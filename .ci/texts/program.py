@@ -2,10 +2,14 @@
 import os
 import resource
 import subprocess
+import sys
 import tempfile
 import unittest
 
-PROGRAM = os.path.abspath(os.path.join(os.path.dirname(__file__), "..", "..", "crates", "pvpsim", "out", "pvpsim"))
+sys.path.append(os.path.dirname(os.path.dirname(os.path.abspath(__file__))))
+
+from books import blocks_of  # noqa: E402
+from shared import BUILT  # noqa: E402
 
 # three currencies, and two members with equal limits
 SETUP = """{"sites":3,
@@ -32,17 +36,42 @@ def of_sites(count):
     return SETUP.replace('"sites":3', f'"sites":{count}')
 
 
+NEW_BOOK = "  ALFA 0 0 0\n  BETA 0 0 0\n  pairs 0 0 0 0\n  figure 0 0 0\n  open 0\n"
+NEW_SITE = f"normal view 0 log 0 done 0 cell 0\n{NEW_BOOK}"
+
+
+def node(told, *figures):
+    """The lines of a node of which this is told, with the figure of each site that runs; what it lacks of the account is on the way."""
+    account = int(told.split()[2])
+    ways = (f"  site {site} figure {it} way {account - it}" for site, it in enumerate(figures) if it is not None)
+    return [f"node {told}", *ways]
+
+
+def books(sites=None, paid=0, figure=0):
+    """What `print` prints of a bank that is new but for these sites, by their numbers, with what is told of each, and for so much that was
+    paid in at the node of USD, of which each site that runs has this figure."""
+    told = [(sites or {}).get(site, NEW_SITE) for site in range(3)]
+    nodes = []
+    for code, account, known in ("EUR", 0, 0), ("USD", paid, figure), ("JPY", 0, 0):
+        figures = [known if it.startswith("normal") else None for it in told]
+        nodes += node(f"{code} account {account} payins {int(account > 0)} payouts 0", *figures)
+    return "".join(f"site {site} {it}" for site, it in enumerate(told)) + "".join(f"{line}\n" for line in nodes)
+
+
+def delivers(*numbers):
+    """The lines of a script that deliver these envelopes."""
+    return "".join(f"deliver {it}\n" for it in numbers)
+
+
+def sent(first, sender, receivers, message):
+    """The lines of a trace that tell of one message to each of these, numbered from the first."""
+    return "\n".join(f"   {number}  {sender} -> {it}  {message}" for number, it in enumerate(receivers.split(), first))
+
+
 def adds_up(text):
-    """Whether each printed site's figure and way come to the account above it; and there is one."""
-    account, seen = 0, False
-    for words in (line.split() for line in text.splitlines()):
-        if words[0] == "node":
-            account = int(words[3])
-        elif words[0] == "site" and words[2] == "figure":
-            if int(words[3]) + int(words[5]) != account:
-                return False
-            seen = True
-    return seen
+    """Whether there are printed books, of which nothing is wrong: each account is a site's figure and the payments on the way."""
+    blocks, wrong = blocks_of(text)
+    return blocks and not wrong
 
 
 class Runs(unittest.TestCase):
@@ -56,15 +85,16 @@ class Runs(unittest.TestCase):
         if self.most_files:
             resource.setrlimit(resource.RLIMIT_NOFILE, (self.most_files, self.most_files))
 
-    def run_on(self, words, setup=SETUP, script="", files=None):
-        """The status of a run, what it printed and what it told; in the folder stand these files too, by their names."""
+    def run_on(self, words, setup=SETUP, script="", files=None, out=subprocess.PIPE):
+        """The status of a run, what it printed, where that goes nowhere else, and what it told; in the folder stand these files too."""
         texts = {"setup.json": setup.encode(), "script.txt": script.encode(), **(files or {})}
         with tempfile.TemporaryDirectory() as folder:
             for name, text in texts.items():
                 with open(os.path.join(folder, name), "wb") as file:
                     file.write(text)
-            ran = subprocess.run([PROGRAM, *words], cwd=folder, stdin=subprocess.DEVNULL, capture_output=True, timeout=120, preexec_fn=self.limit)
-        return ran.returncode, ran.stdout.decode(), ran.stderr.decode()
+            how = {"stdin": subprocess.DEVNULL, "stdout": out, "stderr": subprocess.PIPE, "timeout": 120, "preexec_fn": self.limit}
+            ran = subprocess.run([BUILT, *words], cwd=folder, **how)
+        return ran.returncode, (ran.stdout or b"").decode(), ran.stderr.decode()
 
     def ends(self, words, want, setup=SETUP, script=""):
         """Runs the program, and compares its status, what it printed and what it told."""
@@ -97,13 +127,6 @@ class Runs(unittest.TestCase):
             status, text, said = self.run_on(words, setup, script)
             self.assertEqual((status, text), (2, ""))
             self.assertIn(told, said)
-
-    def helps(self, words, text):
-        """Runs the program on words that ask for help or for the version: printed, with status 2 too."""
-        with self.subTest(words=words):
-            status, printed, said = self.run_on(words)
-            self.assertEqual((status, said), (2, ""))
-            self.assertIn(text, printed)
 
 
 BOOK = ["book", "setup.json", "script.txt"]

@@ -1,14 +1,5 @@
 """Saves that are to fail: what a play prints where they do, and which words of `--fail` are refused."""
-from plays import NEW_SITE
-from program import BOOK, FOUR_SITES, NO_SITE_3, PLAY, SETUP, Runs
-
-
-def books(site, told):
-    """The printed books where of this site, 1 or 2, this is told, and the others are as they were at the start."""
-    sites = "".join(f"site {it} {told if it == site else NEW_SITE}" for it in range(3))
-    ways = "".join(f"  site {it} figure 0 way 0\n" for it in range(3) if it != site)
-    nodes = "".join(f"node {code} account 0 payins 0 payouts 0\n{ways}" for code in ("EUR", "USD", "JPY"))
-    return sites + nodes
+from program import BOOK, FOUR_SITES, NO_SITE_3, PLAY, SETUP, Runs, books
 
 
 class Saves(Runs):
@@ -19,19 +10,19 @@ class Saves(Runs):
             ("2:1:new", "down cell 1\n", "recovering cell 2\n"),
             ("2:1:old", "down cell 0\n", "recovering cell 1\n"),
         ]:
-            text = f"refused 2 S2\n{books(2, down)}{books(2, up)}refused 6 G1\n"
+            text = f"refused 2 S2\n{books({2: down})}{books({2: up})}refused 6 G1\n"
             self.prints([*PLAY, "--fail", fail], text, script=script)
 
     def test_two_restarts_one_of_which_fails(self):
         script = "crash s1\nrestart s1\nrestart s1\nprint\n"
         for fail, up in [("1:1:new", "recovering cell 2\n"), ("1:1:old", "recovering cell 1\n")]:
-            self.prints([*PLAY, "--fail", fail], f"refused 2 S2\n{books(1, up)}", script=script)
+            self.prints([*PLAY, "--fail", fail], f"refused 2 S2\n{books({1: up})}", script=script)
 
     def test_a_second_save_fails(self):
         """The second save alone fails: the restart before it goes well."""
         script = "crash s1\nrestart s1\ncrash s1\nrestart s1\nprint\n"
         for fail, down in [("1:2:new", "down cell 2\n"), ("1:2:old", "down cell 1\n")]:
-            self.prints([*PLAY, "--fail", fail], f"refused 4 S2\n{books(1, down)}", script=script)
+            self.prints([*PLAY, "--fail", fail], f"refused 4 S2\n{books({1: down})}", script=script)
 
     def test_saves_of_several_sites_fail(self):
         """A save of each of two sites fails. Nothing fails where a save is counted that is never made."""

@@ -5,7 +5,13 @@ from program import SETUP, Runs
 
 CHECK = ["check", "setup.json"]
 
-# a number that is refused as JSON, also in a member that is ignored
+# fields of the setup that the worked scripts share, as it has them
+FIELDS = {
+    "sites": "3", "code": '"USD"', "rate": "100", "haircut": "0", "name": '"BETA"', "aggregate": "150000", "short": "[1000,1000,100000]",
+    "deposit": "[10000,10000,1000000]",
+}
+
+# parts of it that are written otherwise, and what its text is told as then: no JSON, also in a member that is ignored
 NO_JSON = [
     ('"sites":3,', '"sites":3,,'),
     ('"sites":3', '"sites":03'),
@@ -13,88 +19,37 @@ NO_JSON = [
     ('"sites":3,', '"sites":3,"note":1e999,'),
 ]
 
-SHORT = '"short":[1000,1000,100000]'
-DEPOSIT = '"deposit":[10000,10000,1000000]'
-
-# a member under another name is missing
-MISSING = [
-    ('"sites":3', '"site":3'),
-    ('"currencies":', '"currency":'),
-    ('"members":', '"member":'),
-    ('"code":"USD"', '"cod":"USD"'),
-    ('"rate":100', '"rat":100'),
-    ('"haircut":0', '"hair":0'),
-    ('"name":"BETA"', '"nam":"BETA"'),
-    ('"aggregate":150000', '"total":150000'),
-    (SHORT, '"shor":[1000,1000,100000]'),
-    (DEPOSIT, '"deposits":[10000,10000,1000000]'),
-]
-
-# a member of another type, and a number that is not digits alone or too large
-WRONG = [
-    ('"sites":3', '"sites":"3"'),
-    ('"sites":3', '"sites":null'),
-    ('"sites":3', '"sites":true'),
-    ('"sites":3', '"sites":[3]'),
-    ('"sites":3', '"sites":-3'),
+# a list with another type, or in its place
+WRONG_LISTS = [
     ('"currencies":[', '"currencies":[5,'),
     ('"members":[', '"members":[null,'),
     ('"currencies":[{"code":"EUR","rate":110,"haircut":500},', '"currencies":{"code":"EUR"},"others":['),
-    ('"code":"USD"', '"code":7'),
-    ('"rate":100', '"rate":-0'),
-    ('"rate":100', '"rate":100.0'),
-    ('"rate":100', '"rate":1e2'),
-    ('"rate":100', '"rate":18446744073709551616'),
-    ('"haircut":0', '"haircut":0.0'),
-    ('"haircut":0', '"haircut":false'),
-    ('"name":"BETA"', '"name":["BETA"]'),
-    ('"aggregate":150000', '"aggregate":"150000"'),
-    (SHORT, '"short":1000'),
-    (SHORT, '"short":[1000,"1000",100000]'),
-    (SHORT, '"short":[1000,1000,1e5]'),
-    (DEPOSIT, '"deposit":{}'),
-    (DEPOSIT, '"deposit":[10000,10000,null]'),
 ]
 
-# the last value that a rule allows, and the first that it does not
-BOUNDS = [
-    ('"sites":3', '"sites":5', None),
-    ('"sites":3', '"sites":4', "K1"),
-    ('"sites":3', '"sites":18446744073709551615', "K1"),
-    ('"code":"USD"', '"code":"US"', "K3"),
-    ('"code":"USD"', '"code":"USDX"', "K3"),
-    ('"code":"USD"', '"code":"USd"', "K3"),
-    ('"code":"USD"', '"code":"US1"', "K3"),
-    ('"code":"USD"', '"code":"EUR"', "K3"),
-    ('"code":"USD"', '"code":"AZA"', None),
-    ('"rate":100', '"rate":0', "K4"),
-    ('"rate":100', '"rate":1', None),
-    ('"rate":100', '"rate":1000000', None),
-    ('"rate":100', '"rate":1000001', "K4"),
-    ('"rate":100', '"rate":18446744073709551615', "K4"),
-    ('"haircut":0', '"haircut":9999', None),
-    ('"haircut":0', '"haircut":10000', "K5"),
-    ('"name":"BETA"', '"name":""', "K7"),
-    ('"name":"BETA"', '"name":"B"', None),
-    ('"name":"BETA"', '"name":"BETA5678"', None),
-    ('"name":"BETA"', '"name":"BETA56789"', "K7"),
-    ('"name":"BETA"', '"name":"BeTA"', "K7"),
-    ('"name":"BETA"', '"name":"0BETA"', "K7"),
-    ('"name":"BETA"', '"name":"ALFA"', "K7"),
-    ('"name":"BETA"', '"name":"OP"', "K7"),
-    ('"name":"BETA"', '"name":"OPS"', None),
-    ('"name":"BETA"', '"name":"JPY"', "K7"),
-    (SHORT, '"short":[1000,1000]', "K8"),
-    (SHORT, '"short":[1000,1000,100000,0]', "K8"),
-    (DEPOSIT, '"deposit":[]', "K8"),
-    (DEPOSIT, '"deposit":[10000,10000,1000000,0]', "K8"),
-    ('"aggregate":150000', '"aggregate":1000000000000000000', None),
-    ('"aggregate":150000', '"aggregate":1000000000000000001', "K9"),
-    (SHORT, '"short":[1000,1000,1000000000000000000]', None),
-    (SHORT, '"short":[1000,1000,1000000000000000001]', "K9"),
-    (DEPOSIT, '"deposit":[1000000000000000,10000,1000000]', None),
-    (DEPOSIT, '"deposit":[1000000000000001,10000,1000000]', "K9"),
-]
+# values of another type, and numbers that are not digits alone or too large
+WRONG = {
+    "sites": ['"3"', "null", "true", "[3]", "-3"],
+    "code": ["7"],
+    "rate": ["-0", "100.0", "1e2", "18446744073709551616"],
+    "haircut": ["0.0", "false"],
+    "name": ['["BETA"]'],
+    "aggregate": ['"150000"'],
+    "short": ["1000", '[1000,"1000",100000]', "[1000,1000,1e5]"],
+    "deposit": ["{}", "[10000,10000,null]"],
+}
+
+# of each field the last values that its rule allows, and the first that it refuses, by this code
+BOUNDS = {
+    "sites": (["5"], "K1", ["4", "18446744073709551615"]),
+    "code": (['"AZA"'], "K3", ['"US"', '"USDX"', '"USd"', '"US1"', '"EUR"']),
+    "rate": (["1", "1000000"], "K4", ["0", "1000001", "18446744073709551615"]),
+    "haircut": (["9999"], "K5", ["10000"]),
+    "name": (['"B"', '"BETA5678"', '"OPS"'], "K7", ['""', '"BETA56789"', '"BeTA"', '"0BETA"', '"ALFA"', '"OP"', '"JPY"']),
+    "aggregate": (["1000000000000000000"], "K9", ["1000000000000000001"]),
+    "short": (["[1000,1000,1000000000000000000]"], "K9", ["[1000,1000,1000000000000000001]"]),
+    "deposit": (["[1000000000000000,10000,1000000]"], "K9", ["[1000000000000001,10000,1000000]"]),
+}
+WRONG_LENGTHS = {"short": ["[1000,1000]", "[1000,1000,100000,0]"], "deposit": ["[]", "[10000,10000,1000000,0]"]}
 
 # other members are ignored, and of a name that stands twice the last value counts
 OTHERS = [
@@ -132,6 +87,10 @@ class Setups(Runs):
             with self.subTest(other=other):
                 self.is_told(SETUP.replace(part, other, 1), code)
 
+    def have(self, values, code):
+        """The setup is told so with each of these values of its fields."""
+        self.are_told((f'"{field}":{FIELDS[field]}', f'"{field}":{value}', code) for field, found in values.items() for value in found)
+
     def test_texts_that_are_no_json(self):
         for setup in ("", '{"sites":3', "{}{}", "[" * 128 + "]" * 128):
             self.is_told(setup, "J1")
@@ -143,10 +102,17 @@ class Setups(Runs):
         self.assertEqual(self.run_on(["check", "note.json"], files={"note.json": b'{"note":"\xff"}'}), (1, "", "fault json J1\n"))
 
     def test_missing_members_and_wrong_types(self):
-        self.are_told((*row, "J2") for row in MISSING + WRONG)
+        self.are_told((*row, "J2") for row in WRONG_LISTS)
+        self.have(WRONG, "J2")
+        # under another name each is missing
+        for field, value in {**FIELDS, "currencies": "[", "members": "["}.items():
+            self.are_told((f'"{field}":{value}', f'"{other}":{value}', "J2") for other in (field[:-1], f"{field}s"))
 
     def test_each_rule_at_its_bounds(self):
-        self.are_told(BOUNDS)
+        for field, (allowed, code, refused) in BOUNDS.items():
+            self.have({field: allowed}, None)
+            self.have({field: refused}, code)
+        self.have(WRONG_LENGTHS, "K8")
         for currencies, members, code in ((0, 1, "K2"), (1, 1, None), (8, 64, None), (9, 64, "K2"), (1, 0, "K6"), (8, 65, "K6")):
             self.is_told(bank_of(currencies, members), code)
 

@@ -1,45 +1,22 @@
 """What each step of a bank does, and how a trace tells it: every kind of message and of command, and every reason for which a step
 is not taken."""
-from program import PLAY, TRACE, Runs, of_sites
+import re
+
+from program import NEW_BOOK, PLAY, TRACE, Runs, books, delivers, node, of_sites, sent
 
 # a pay-in that reaches every book
-PAID_IN = "payin ALFA USD 1200\n" + "".join(f"deliver {it}\n" for it in range(1, 9)) + "beat s0\ndeliver 9\ndeliver 10\n"
+PAID_IN = f"payin ALFA USD 1200\n{delivers(*range(1, 9))}beat s0\n{delivers(9, 10)}"
 
 # ALFA asks for 200 of it, and the primary's beat orders the payment: envelope 21
-ORDERED = PAID_IN + "do ALFA payout USD 200\n" + "".join(f"deliver {it}\n" for it in range(11, 19)) + "beat s0\n"
+ORDERED = f"{PAID_IN}do ALFA payout USD 200\n{delivers(*range(11, 19))}beat s0\n"
 
 OF_ALFA = "ALFA 1 instruct 5 BETA EUR 100 USD 200"
 
 # a trade, a view change in which both new logs are compared, a recovery, and a site that asks for what it lacks
-CHANGE = """do ALFA instruct 5 BETA EUR 100 USD 200
-deliver 1
-deliver 4
-deliver 6
-timer s1
-deliver 9
-deliver 11
-deliver 12
-deliver 14
-deliver 15
-crash s0
-restart s0
-deliver 17
-deliver 18
-do OP settle 8
-deliver 22
-do BETA rescind 5
-deliver 27
-deliver 30
-deliver 31
-"""
-
-CHANGE_TOLD = f"""1  do ALFA instruct 5 BETA EUR 100 USD 200
-   1  ALFA -> s0  REQUEST 1 instruct 5 BETA EUR 100 USD 200
-   2  ALFA -> s1  REQUEST 1 instruct 5 BETA EUR 100 USD 200
-   3  ALFA -> s2  REQUEST 1 instruct 5 BETA EUR 100 USD 200
+CHANGE = f"""1  do ALFA instruct 5 BETA EUR 100 USD 200
+{sent(1, "ALFA", "s0 s1 s2", "REQUEST 1 instruct 5 BETA EUR 100 USD 200")}
 2  deliver 1 to s0, REQUEST
-   4  s0 -> s1  PREPARE view 0 place 1 done 0 row {OF_ALFA}
-   5  s0 -> s2  PREPARE view 0 place 1 done 0 row {OF_ALFA}
+{sent(4, "s0", "s1 s2", f"PREPARE view 0 place 1 done 0 row {OF_ALFA}")}
 3  deliver 4 to s1, PREPARE
    6  s1 -> s0  PREPAREOK view 0 place 1
 4  deliver 6 to s0, PREPAREOK
@@ -47,18 +24,15 @@ CHANGE_TOLD = f"""1  do ALFA instruct 5 BETA EUR 100 USD 200
    7  s0 -> ALFA  REPLY view 0 to 1 done
 5  timer s1
    s1 is in change to view 1
-   8  s1 -> s0  STARTVIEWCHANGE view 1 boots 0 0 0
-   9  s1 -> s2  STARTVIEWCHANGE view 1 boots 0 0 0
+{sent(8, "s1", "s0 s2", "STARTVIEWCHANGE view 1 boots 0 0 0")}
 6  deliver 9 to s2, STARTVIEWCHANGE
    s2 is in change to view 1
-   10  s2 -> s0  STARTVIEWCHANGE view 1 boots 0 0 0
-   11  s2 -> s1  STARTVIEWCHANGE view 1 boots 0 0 0
+{sent(10, "s2", "s0 s1", "STARTVIEWCHANGE view 1 boots 0 0 0")}
    12  s2 -> s1  DOVIEWCHANGE view 1 normal 0 done 0 rows 0 boots 0 0 0
 7  deliver 11 to s1, STARTVIEWCHANGE
 8  deliver 12 to s1, DOVIEWCHANGE
    s1 is normal in view 1
-   13  s1 -> s0  STARTVIEW view 1 done 0 rows 1 last {OF_ALFA}
-   14  s1 -> s2  STARTVIEW view 1 done 0 rows 1 last {OF_ALFA}
+{sent(13, "s1", "s0 s2", f"STARTVIEW view 1 done 0 rows 1 last {OF_ALFA}")}
 9  deliver 14 to s2, STARTVIEW
    s2 is normal in view 1
    15  s2 -> s1  PREPAREOK view 1 place 1
@@ -69,26 +43,19 @@ CHANGE_TOLD = f"""1  do ALFA instruct 5 BETA EUR 100 USD 200
    s0 is down
 12  restart s0
    s0 is recovering
-   17  s0 -> s1  RECOVERY nonce 1
-   18  s0 -> s2  RECOVERY nonce 1
+{sent(17, "s0", "s1 s2", "RECOVERY nonce 1")}
 13  deliver 17 to s1, RECOVERY
    19  s1 -> s0  RECOVERYRESPONSE view 1 nonce 1 done 1 rows 1 last {OF_ALFA} boots 1 0 0
 14  deliver 18 to s2, RECOVERY
    20  s2 -> s0  RECOVERYRESPONSE view 1 nonce 1 boots 1 0 0
 15  do OP settle 8
-   21  OP -> s0  REQUEST 1 settle 8
-   22  OP -> s1  REQUEST 1 settle 8
-   23  OP -> s2  REQUEST 1 settle 8
+{sent(21, "OP", "s0 s1 s2", "REQUEST 1 settle 8")}
 16  deliver 22 to s1, REQUEST
-   24  s1 -> s0  PREPARE view 1 place 2 done 1 row OP 1 settle 8
-   25  s1 -> s2  PREPARE view 1 place 2 done 1 row OP 1 settle 8
+{sent(24, "s1", "s0 s2", "PREPARE view 1 place 2 done 1 row OP 1 settle 8")}
 17  do BETA rescind 5
-   26  BETA -> s0  REQUEST 1 rescind 5
-   27  BETA -> s1  REQUEST 1 rescind 5
-   28  BETA -> s2  REQUEST 1 rescind 5
+{sent(26, "BETA", "s0 s1 s2", "REQUEST 1 rescind 5")}
 18  deliver 27 to s1, REQUEST
-   29  s1 -> s0  PREPARE view 1 place 3 done 1 row BETA 1 rescind 5
-   30  s1 -> s2  PREPARE view 1 place 3 done 1 row BETA 1 rescind 5
+{sent(29, "s1", "s0 s2", "PREPARE view 1 place 3 done 1 row BETA 1 rescind 5")}
 19  deliver 30 to s2, PREPARE
    s2 executes row 1
    31  s2 -> s1  GETSTATE view 1 base 1
@@ -98,15 +65,16 @@ CHANGE_TOLD = f"""1  do ALFA instruct 5 BETA EUR 100 USD 200
 
 
 class Steps(Runs):
+    def is_told(self, trace, words=()):
+        """The script of the steps that a trace tells is traced so."""
+        steps = re.findall(r"(?m)^\d+  (deliver \d+|[^:\n]*)", trace)
+        self.prints([*TRACE, *words], trace, script="".join(f"{it}\n" for it in steps))
+
     def test_a_pay_in_is_told(self):
-        script = "payin ALFA USD 1200\ndeliver 1\ndeliver 2\ndeliver 4\ndeliver 5\ndeliver 6\ndeliver 7\ndeliver 8\nbeat s0\n"
-        self.prints(TRACE, """1  payin ALFA USD 1200
-   1  USD -> s0  REQUEST 1 fund USD 1 ALFA 1200
-   2  USD -> s1  REQUEST 1 fund USD 1 ALFA 1200
-   3  USD -> s2  REQUEST 1 fund USD 1 ALFA 1200
+        self.is_told(f"""1  payin ALFA USD 1200
+{sent(1, "USD", "s0 s1 s2", "REQUEST 1 fund USD 1 ALFA 1200")}
 2  deliver 1 to s0, REQUEST
-   4  s0 -> s1  PREPARE view 0 place 1 done 0 row USD 1 fund USD 1 ALFA 1200
-   5  s0 -> s2  PREPARE view 0 place 1 done 0 row USD 1 fund USD 1 ALFA 1200
+{sent(4, "s0", "s1 s2", "PREPARE view 0 place 1 done 0 row USD 1 fund USD 1 ALFA 1200")}
 3  deliver 2 to s1, REQUEST: dropped, another site is the primary
 4  deliver 4 to s1, PREPARE
    6  s1 -> s0  PREPAREOK view 0 place 1
@@ -118,12 +86,11 @@ class Steps(Runs):
 7  deliver 7 to s0, PREPAREOK
 8  deliver 8 to USD, REPLY
 9  beat s0
-   9  s0 -> s1  COMMIT view 0 done 1
-   10  s0 -> s2  COMMIT view 0 done 1
-""", script=script)
+{sent(9, "s0", "s1 s2", "COMMIT view 0 done 1")}
+""")
 
     def test_a_view_change_and_what_follows_are_told(self):
-        self.prints(TRACE, CHANGE_TOLD, script=CHANGE)
+        self.is_told(CHANGE)
 
     def test_a_vote_with_rows_is_told(self):
         """Site 2 leads view 2, for which its timer runs out twice."""
@@ -141,8 +108,7 @@ class Steps(Runs):
         self.shows(TRACE, script, ["   3  ALFA -> s2  REQUEST 1 instruct 5 BETA EUR 100 @7 200"])
 
     def test_refusals_and_falls_are_told(self):
-        script = "deliver 1\nclose @3 USD\ndo @9 settle 1\ncrash s2\ntimer s2\nbeat USD\nrestart s2\n"
-        self.prints([*TRACE, "--fail", "2:1:new"], """1  deliver 1: G1, no envelope has this number
+        self.is_told("""1  deliver 1: G1, no envelope has this number
 2  close @3 USD: N2, there is no such member
 3  do @9 settle 1: G2, there is no such actor
 4  crash s2
@@ -150,7 +116,7 @@ class Steps(Runs):
 5  timer s2: S3, the site is down
 6  beat USD
 7  restart s2: S2, the boot cell did not save, and the site is down, its cell holds 1
-""", script=script)
+""", ["--fail", "2:1:new"])
 
     def test_each_reason_to_take_no_step(self):
         """The steps change nothing: three envelopes were sent, and no account has moved."""
@@ -165,64 +131,43 @@ class Steps(Runs):
 
     def test_requests_that_come_again_do_nothing(self):
         """The primary says its REPLY again each time, and the others drop."""
-        again = 5 * "deliver 1\ndeliver 2\ndeliver 3\n"
-        self.shows(PLAY, f"{PAID_IN}{again}print\ndeliver 15\ndeliver 16\n", [
+        self.shows(PLAY, f"{PAID_IN}{5 * delivers(1, 2, 3)}print\n{delivers(15, 16)}", [
             "site 0 normal view 0 log 1 done 1 cell 0",
             "  ALFA 0 1200 0",
-            "node USD account 1200 payins 1 payouts 0",
-            "  site 0 figure 1200 way 0",
+            *node("USD account 1200 payins 1 payouts 0", 1200),
             "refused 30 G1",
         ])
 
     def test_a_pay_in_reaches_each_book_in_ten_envelopes(self):
         """Three REQUESTs, two PREPAREs, two PREPAREOKs, a REPLY and two COMMITs; the REQUESTs once more change nothing."""
         script = "payin ALFA USD 1200\ndrain 100\nbeat s0\ndrain 100\n"
-        sites = "".join(f"site {it} normal view 0 log 1 done 1 cell 0\n  ALFA 0 1200 0\n  BETA 0 0 0\n  pairs 0 0 0 0\n  figure 0 1200 0\n  open 0\n" for it in range(3))
-        nodes = "".join(
-            f"node {ccy} account {amt} payins {count} payouts 0\n" + "".join(f"  site {it} figure {amt} way 0\n" for it in range(3))
-            for ccy, amt, count in (("EUR", 0, 0), ("USD", 1200, 1), ("JPY", 0, 0))
-        )
-        self.prints(PLAY, sites + nodes, script=f"{script}print\n")
-        again = 5 * "deliver 1\ndeliver 2\ndeliver 3\n"
-        self.prints(PLAY, sites + nodes, script=f"{script}{again}print\n")
-        self.shows(PLAY, f"{script}deliver 10\ndeliver 11\n", ["refused 6 G1"])
+        paid = "normal view 0 log 1 done 1 cell 0\n" + NEW_BOOK.replace("ALFA 0 0", "ALFA 0 1200").replace("figure 0 0", "figure 0 1200")
+        for again in 0, 5:
+            text = books({site: paid for site in range(3)}, 1200, 1200)
+            self.prints(PLAY, text, script=f"{script}{again * delivers(1, 2, 3)}print\n")
+        self.shows(PLAY, f"{script}{delivers(10, 11)}", ["refused 6 G1"])
 
     def test_a_beat_tells_how_far_it_has_come_before_it_orders(self):
         """Two rows are executed, and order 1 is open."""
-        self.shows(TRACE, ORDERED, [
-            "22  beat s0",
-            "   19  s0 -> s1  COMMIT view 0 done 2",
-            "   20  s0 -> s2  COMMIT view 0 done 2",
-            "   21  s0 -> USD  PAYORDER USD 1 ALFA 200",
-        ])
+        commits = ["   19  s0 -> s1  COMMIT view 0 done 2", "   20  s0 -> s2  COMMIT view 0 done 2"]
+        self.shows(TRACE, ORDERED, ["22  beat s0", *commits, "   21  s0 -> USD  PAYORDER USD 1 ALFA 200"])
 
     def test_a_payment_is_ordered_and_done_once(self):
         """The order is in the primary's book alone at first; its envelope comes a second time."""
-        done = "".join(f"deliver {it}\n" for it in [*range(19, 30), 21])
-        self.shows(PLAY, f"{ORDERED}print\n{done}print\n", [
-            "node USD account 1200 payins 1 payouts 0",
-            "  site 0 figure 1000 way 200",
-            "  site 1 figure 1200 way 0",
+        self.shows(PLAY, f"{ORDERED}print\n{delivers(*range(19, 30), 21)}print\n", [
+            *node("USD account 1200 payins 1 payouts 0", 1000, 1200),
             "client ALFA 1 order 1",
-            "site 0 normal view 0 log 3 done 3 cell 0",
-            "site 1 normal view 0 log 3 done 2 cell 0",
-            "site 2 normal view 0 log 3 done 2 cell 0",
-            "node USD account 1000 payins 1 payouts 1",
-            "  site 0 figure 1000 way 0",
-            "  site 1 figure 1000 way 0",
-            "  site 2 figure 1000 way 0",
+            *(f"site {site} normal view 0 log 3 done {done} cell 0" for site, done in enumerate((3, 2, 2))),
+            *node("USD account 1000 payins 1 payouts 1", 1000, 1000, 1000),
         ])
 
     def test_an_order_and_its_payment_are_told(self):
-        self.shows(TRACE, f"{ORDERED}deliver 21\n", [
-            "22  beat s0",
-            "   21  s0 -> USD  PAYORDER USD 1 ALFA 200",
-            "23  deliver 21 to USD, PAYORDER",
-            "   22  USD -> s0  REQUEST 2 paid USD 1",
-        ])
+        ordered = ["22  beat s0", "   21  s0 -> USD  PAYORDER USD 1 ALFA 200"]
+        self.shows(TRACE, f"{ORDERED}deliver 21\n", [*ordered, "23  deliver 21 to USD, PAYORDER", "   22  USD -> s0  REQUEST 2 paid USD 1"])
 
     def test_an_order_that_is_returned_is_told(self):
-        self.shows(TRACE, f"{ORDERED}close ALFA USD\ndeliver 21\n", ["24  deliver 21 to USD, PAYORDER", "   22  USD -> s0  REQUEST 2 returned USD 1"])
+        told = ["24  deliver 21 to USD, PAYORDER", "   22  USD -> s0  REQUEST 2 returned USD 1"]
+        self.shows(TRACE, f"{ORDERED}close ALFA USD\ndeliver 21\n", told)
 
     def test_answers_are_told(self):
         """A settlement run over no pair, and a rescission of a pair that there is not."""
@@ -236,5 +181,5 @@ class Steps(Runs):
         self.shows(PLAY, script, want, of_sites(5))
 
     def test_a_timer_tells_six_other_sites(self):
-        sent = "".join(f"   {number}  s1 -> s{to}  STARTVIEWCHANGE view 1 boots 0 0 0 0 0 0 0\n" for number, to in enumerate((0, 2, 3, 4, 5, 6), 1))
-        self.prints(TRACE, f"1  timer s1\n   s1 is in change to view 1\n{sent}", of_sites(7), "timer s1\n")
+        told = sent(1, "s1", "s0 s2 s3 s4 s5 s6", "STARTVIEWCHANGE view 1 boots 0 0 0 0 0 0 0")
+        self.prints(TRACE, f"1  timer s1\n   s1 is in change to view 1\n{told}\n", of_sites(7), "timer s1\n")

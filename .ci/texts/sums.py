@@ -2,6 +2,7 @@
 import itertools
 import random
 
+from book import paid_in, pair
 from program import BOOK, Runs
 
 MEMBERS = ("ALFA", "BETA")
@@ -28,7 +29,7 @@ class Plain:
         self.pairs = {}  # by reference: (first, sells, amount, second, buys, amount), in the order of matching
         self.opened, self.settled, self.back = {}, [], set()
         self.orders = {ccy: [] for ccy in CURRENCIES}  # by currency: member, amount
-        self.paid, self.returned = set(), set()
+        self.ended = {"paid": set(), "returned": set()}
 
     def balance(self, member):
         sums = dict.fromkeys(CURRENCIES, 0)
@@ -41,7 +42,7 @@ class Plain:
             sums[buy] += sign * bought
         for ccy, orders in self.orders.items():
             for out, (of, amount) in enumerate(orders, 1):
-                sums[ccy] -= amount * (of == member and (ccy, out) not in self.returned)
+                sums[ccy] -= amount * (of == member and (ccy, out) not in self.ended["returned"])
         return sums
 
     def figure(self, ccy):
@@ -111,41 +112,31 @@ class Plain:
         self.orders[ccy].append((who, amount))
         return f"order {len(self.orders[ccy])}"
 
-    def end(self, ended, ccy, out):
+    def end(self, how, ccy, out):
         """An order is paid, or returned."""
         if not 1 <= out <= len(self.orders[ccy]):
             return "no B7"
-        if (ccy, out) in self.paid | self.returned:
+        if (ccy, out) in self.ended["paid"] | self.ended["returned"]:
             return "no B5"
-        ended.add((ccy, out))
+        self.ended[how].add((ccy, out))
         return "done"
 
     def does(self, line):
         """What a command is answered."""
         _, who, command, *words = line.split()
         words = [int(it) if it.isdigit() else it for it in words]
-        match command:
-            case "fund":
-                return self.fund(*words)
-            case "instruct":
-                return self.instruct(who, *words)
-            case "rescind":
-                return self.rescind(who, *words)
-            case "settle":
-                return self.settle(*words)
-            case "payout":
-                return self.payout(who, *words)
-            case "paid":
-                return self.end(self.paid, *words)
-            case "returned":
-                return self.end(self.returned, *words)
+        if command in ("paid", "returned"):
+            return self.end(command, *words)
+        if command in ("instruct", "rescind", "payout"):
+            words = [who, *words]
+        return getattr(self, command)(*words)
 
     def block(self):
         """What `print` prints."""
         back = [it for it in self.opened if self.is_back(it)]
         matched = [it for it in self.pairs if self.waits(it)]
         unmatched = len(self.opened) - len(self.settled) - len(back) - len(matched)
-        is_open = sum(map(len, self.orders.values())) - len(self.paid) - len(self.returned)
+        is_open = sum(map(len, self.orders.values())) - sum(map(len, self.ended.values()))
         lines = [f"{it} " + " ".join(map(str, self.balance(it).values())) for it in MEMBERS]
         lines.append(f"pairs {unmatched} {len(matched)} {len(self.settled)} {len(back)}")
         lines.append("figure " + " ".join(str(self.figure(it)) for it in CURRENCIES))
@@ -157,22 +148,15 @@ def row(dice):
     member, other = dice.choice([MEMBERS, MEMBERS[::-1]])
     number, ccy, amount = dice.randrange(9), dice.choice(CURRENCIES), dice.randint(1, 1500)
     sides = "EUR 400 USD 440" if member == "ALFA" else "USD 440 EUR 400"
-    return dice.choice(
-        [
-            *[f"do {ccy} fund {ccy} {number} {member} {amount}"] * 2,
-            f"do {member} payout {ccy} {amount}",
-            f"do {ccy} paid {ccy} {number}",
-            f"do {ccy} returned {ccy} {number}",
-            f"do {member} rescind {number}",
-            f"do OP settle {number}",
-            *[f"do {member} instruct {number} {other} {sides}"] * 3,
-        ]
-    )
-
-
-def agreed(reference, sell, buy):
-    """ALFA sells BETA the one for the other."""
-    return [f"do ALFA instruct {reference} BETA {sell} {buy}", f"do BETA instruct {reference} ALFA {buy} {sell}"]
+    return dice.choice([
+        *[f"do {ccy} fund {ccy} {number} {member} {amount}"] * 2,
+        f"do {member} payout {ccy} {amount}",
+        f"do {ccy} paid {ccy} {number}",
+        f"do {ccy} returned {ccy} {number}",
+        f"do {member} rescind {number}",
+        f"do OP settle {number}",
+        *[f"do {member} instruct {number} {other} {sides}"] * 3,
+    ])
 
 
 class Sums(Runs):
@@ -190,19 +174,11 @@ class Sums(Runs):
         for seed in range(1, 21):
             dice = random.Random(seed)
             plain = self.agrees([row(dice) for _ in range(200)])
-            ended = [a + len(b) for a, b in zip(ended, (plain.settled, plain.paid, plain.returned))]
+            ended = [a + len(b) for a, b in zip(ended, (plain.settled, *plain.ended.values()))]
         self.assertTrue(all(ended), ended)
 
     def test_walks_over_three_offers(self):
         """A walk posts a pair where both members then pass the tests, with what the pairs before it left them."""
         for first, second, most in itertools.product([400, 900, 1400], [300, 1400, 1500], range(4)):
-            self.agrees(
-                [
-                    "do USD fund USD 1 ALFA 1500",
-                    "do EUR fund EUR 1 BETA 500",
-                    *agreed(1, "USD 1100", f"EUR {first}"),
-                    *agreed(2, f"EUR {second}", "USD 1000"),
-                    *agreed(3, "USD 400", "JPY 40000"),
-                    f"do OP settle {most}",
-                ]
-            )
+            offers = [*pair(1, "USD 1100", f"EUR {first}"), *pair(2, f"EUR {second}", "USD 1000"), *pair(3, "USD 400", "JPY 40000")]
+            self.agrees([*(line for line, _ in [*paid_in(1500, 500), *offers]), f"do OP settle {most}"])

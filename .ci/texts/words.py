@@ -1,9 +1,7 @@
 """Words of the command line: those of no form, help, the version, and what each fault code means."""
 import os
-import subprocess
-import tempfile
 
-from program import BOOK, PROGRAM, SETUP, Runs
+from program import BOOK, Runs
 
 # all codes, in the order of `docs/formats.md`, with what each means
 CODES = """J1  the text is no JSON
@@ -114,55 +112,41 @@ X11  the rows that the log has left are for letting money out
 
 class Words(Runs):
     def test_words_of_no_form(self):
-        for words in [
-            [],
-            ["play", "setup.json"],
-            ["book", "setup.json"],
-            ["check", "setup.json", "script.txt"],
-            ["--fail", "setup.json"],
-        ]:
-            self.has_no_form(words, "pvpsim")
+        for words in "", "play setup.json", "book setup.json", "check setup.json script.txt", "--fail setup.json":
+            self.has_no_form(words.split(), "pvpsim")
 
     def test_help_and_version(self):
         """They are printed, with status 2."""
         for words, text in [
-            (["--version"], "pvpsim 0.1.0\n"),
-            (["--help"], "Checks whether a setup meets the rules: prints `setup ok`, or the first rule that is broken"),
-            (["--help"], "docs/formats.md"),
-            (["check", "--help"], "A setup: a JSON file with the sites, the currencies and the members of the bank"),
-            (["book", "--help"], "A script: a text file with one statement a line"),
-            (["play", "--help"], "--fail <SITE:AT:KEEP>"),
-            (["play", "--help"], "Makes a save of a site's boot cell fail; may be given once for each site."),
-            (["help"], "`pvpsim help codes`"),
-            (["help", "check"], "A setup: a JSON file"),
+            ("--version", "pvpsim 0.1.0\n"),
+            ("--help", "Checks whether a setup meets the rules: prints `setup ok`, or the first rule that is broken"),
+            ("--help", "docs/formats.md"),
+            ("check --help", "A setup: a JSON file with the sites, the currencies and the members of the bank"),
+            ("book --help", "A script: a text file with one statement a line"),
+            ("play --help", "--fail <SITE:AT:KEEP>"),
+            ("play --help", "Makes a save of a site's boot cell fail; may be given once for each site."),
+            ("help", "`pvpsim help codes`"),
+            ("help check", "A setup: a JSON file"),
         ]:
-            self.helps(words, text)
+            with self.subTest(words=words):
+                status, printed, told = self.run_on(words.split())
+                self.assertEqual((status, told), (2, ""))
+                self.assertIn(text, printed)
 
     def test_a_reader_who_leaves(self):
         """Where the reader of what is printed is gone, nothing is told; a writer that fails otherwise is told."""
         script = "print\n" * 5000
-        for out, told in ((self.closed_pipe(), b""), (open("/dev/full", "wb", buffering=0), b"fault output\n")):
-            with self.subTest(told=told), out, tempfile.TemporaryDirectory() as folder:
-                for name, text in (("setup.json", SETUP), ("script.txt", script)):
-                    with open(os.path.join(folder, name), "w", encoding="utf-8") as file:
-                        file.write(text)
-                ran = subprocess.run([PROGRAM, *BOOK], cwd=folder, stdin=subprocess.DEVNULL, stdout=out, stderr=subprocess.PIPE, timeout=120)
-                self.assertEqual((ran.returncode, ran.stderr), (1, told))
-
-    @staticmethod
-    def closed_pipe():
-        """The writing end of a pipe that nobody reads."""
         reader, writer = os.pipe()
         os.close(reader)
-        return os.fdopen(writer, "wb", buffering=0)
+        for out, fault in (os.fdopen(writer, "wb", buffering=0), ""), (open("/dev/full", "wb", buffering=0), "fault output\n"):
+            with self.subTest(fault=fault), out:
+                status, _, told = self.run_on(BOOK, script=script, out=out)
+                self.assertEqual((status, told), (1, fault))
 
     def test_each_code_is_told_with_its_meaning(self):
         self.prints(["help", "codes"], CODES)
 
     def test_help_on_what_is_no_command(self):
         """Other words after `help` are their reader's, which tells that there is no such command."""
-        for words, told in [
-            (["help", "code"], "code"),
-            (["help", "codes", "codes"], "codes"),
-        ]:
-            self.has_no_form(words, told)
+        self.has_no_form(["help", "code"], "code")
+        self.has_no_form(["help", "codes", "codes"], "codes")
