@@ -76,6 +76,13 @@ class Rooms:
                     stream.close()
 
 
+def drained(stream):
+    """Takes all that comes, to its end."""
+    with contextlib.suppress(OSError):
+        while stream.recv(65_536):
+            pass
+
+
 class Wire:
     """The streams that one process opens to another, which listens at this port: they come to a port of their own, and all that they
     carry passes through this script."""
@@ -86,6 +93,8 @@ class Wire:
         self.is_open.set()
         # what each piece takes, how much more one that has to be sent again, how often that is, and how many bytes a piece has
         self.delay, self.again, self.lost, self.most = 0.0, 0.0, 0.0, 65_536
+        # what the last stream carried there and back, and whether that is played to whoever comes, in the place of the process
+        self.there, self.back, self.plays = bytearray(), bytearray(), False
         self.server = socket.create_server(("127.0.0.1", 0))
         threading.Thread(target=self.listen, daemon=True).start()
 
@@ -97,19 +106,26 @@ class Wire:
     def join(self, ours):
         """Joins a stream that came with one to the process that it goes to."""
         self.is_open.wait()
+        if self.plays:
+            with ours, contextlib.suppress(OSError):
+                ours.sendall(self.back)
+                drained(ours)
+            return
         with ours, contextlib.suppress(OSError), socket.create_connection(("127.0.0.1", self.port)) as theirs:
-            back = threading.Thread(target=self.carry, args=(theirs, ours), daemon=True)
+            self.there, self.back = bytearray(), bytearray()
+            back = threading.Thread(target=self.carry, args=(theirs, ours, self.back), daemon=True)
             back.start()
-            self.carry(ours, theirs)
+            self.carry(ours, theirs, self.there)
             back.join()
 
-    def carry(self, source, sink):
+    def carry(self, source, sink, kept):
         """Hands on what comes from one side, piece by piece, to its end, which is that of both."""
         with contextlib.suppress(OSError):
             while piece := source.recv(self.most):
                 if self.delay:
                     time.sleep(self.delay + (self.again if self.draw.random() < self.lost else 0))
                 self.is_open.wait()
+                kept += piece
                 sink.sendall(piece)
         for it in source, sink:
             with contextlib.suppress(OSError):

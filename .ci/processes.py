@@ -1,5 +1,4 @@
 """Banks whose actors are processes of the program, over the loopback of this machine, and frames that strangers send them."""
-import contextlib
 import json
 import os
 import pathlib
@@ -12,6 +11,7 @@ import time
 
 from books import judged
 from journal_bytes import frame
+from networks import drained
 from power import Machine
 from shared import PROGRAM, ROOT, ran, read, shim
 
@@ -266,15 +266,13 @@ def request_of(actor, clock, to, number):
 
 
 def hello_of(journal, actor):
-    """What an actor without a key says first over a stream, in the bank of this journal."""
-    return struct.pack(">IH", 34, actor) + journal.read_bytes()[12:44]
+    """A hello of an actor, in the bank of this journal."""
+    return struct.pack(">IH", 50, actor) + journal.read_bytes()[12:44] + bytes(16)
 
 
-def drained(stream):
-    """Takes all that comes, to its end."""
-    with contextlib.suppress(OSError):
-        while stream.recv(65_536):
-            pass
+def opening_of(journal, actor):
+    """What an actor without a key says over a stream before its frames: who calls, and who answers the site's hello."""
+    return hello_of(journal, actor) * 2
 
 
 class Flooding:
@@ -284,7 +282,7 @@ class Flooding:
         self.actor, self.clock, self.number = actor, 1_000, 1_000
         self.streams = [socket.create_connection(("127.0.0.1", port), 5) for port in ports]
         for it in self.streams:
-            it.sendall(hello_of(journal, actor))
+            it.sendall(opening_of(journal, actor))
             threading.Thread(target=drained, args=(it,), daemon=True).start()
 
     def sends(self, step, count=200):
