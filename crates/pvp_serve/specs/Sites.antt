@@ -63,7 +63,7 @@ abbrev pub teller_after : Inbox → Lost → Lost → Teller → Teller
 teller_after Tick lost flood teller = told_after teller lost.count flood.count
 teller_after (Gone peer stream end) lost flood teller =
     record teller { ended = ended_after peer end teller.ended }
-teller_after (Away why) lost flood teller = turned_away why teller
+teller_after (Away who) lost flood teller = turned_away who teller
 teller_after _ lost flood teller = teller
 
 -- WHAT BECOMES OF AN ENVELOPE at the door of a site: one of a site is taken, and one of a client or a node where the

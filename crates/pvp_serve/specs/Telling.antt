@@ -9,6 +9,7 @@ use Rattle.pvp_links.specs.declared.fault.LinkFault.{LinkFault}
 use Rattle.pvp_serve.specs.declared.serving.Standing.{Standing}
 use Rattle.pvp_serve.specs.declared.telling.Stood.{Stood}
 use Rattle.pvp_serve.specs.declared.telling.Teller.{Teller}
+use Rattle.pvp_serve.specs.declared.telling.TurnedAway.{TurnedAway}
 use Rattle.pvp_serve.specs.declared.telling.TheConstants.{TELLING_TICKS}
 use Rattle.pvp_serve.specs.Admission.{is_full_at}
 use Rattle.pvp_serve.specs.Patience.{up_to_most}
@@ -20,7 +21,7 @@ fresh_teller setup = record {
   stood = None;
   ended = None;
   away = 0;
-  why = None;
+  last = None;
   told = record { away = 0; lost = 0; flood = 0 };
   ticks = 0;
 }
@@ -32,10 +33,10 @@ status_word Change = codes "change"
 status_word Recovering = codes "recovering"
 status_word Down = codes "down"
 
--- A STREAM MORE was turned away: why is kept where that is known
-abbrev pub turned_away : Option LinkFault → Teller → Teller
-turned_away why teller =
-    record teller { away = min (teller.away + 1) (2 ^ 64 - 1); why = if is_some why then why else teller.why }
+-- A STREAM MORE was turned away: whose is kept where that is known
+abbrev pub turned_away : Option TurnedAway → Teller → Teller
+turned_away who teller =
+    record teller { away = min (teller.away + 1) (2 ^ 64 - 1); last = if is_some who then who else teller.last }
 
 -- THE LAST STREAM that ended with something wrong, once one more has ended
 abbrev pub ended_after : ℕ → LinkEnd → Option (ℕ × LinkFault) → Option (ℕ × LinkFault)

@@ -22,17 +22,20 @@ const HELLO_SECONDS: u64 = 5;
 const HELLO_BYTES: usize = 70;
 
 /// Hears who calls over a stream that was opened to a site, and has it show that it is there now. Answers the link; what came
-/// behind is still in the intake. `Err` where that is no actor that may talk to this one, or it does not show itself in time.
+/// behind is still in the intake. `Err` where that is no actor that may talk to this one, or it does not show itself in time;
+/// `said` is then whom it said to be, if it did.
 pub fn answer<R: Wires>(
     rt: R,
     stream: &mut TcpStream,
     intake: &mut Intake,
     door: &Door,
+    said: &mut Option<u16>,
 ) -> Result<Link, LinkFault>
     ensures { IfOk result (λ link. IsLetIn door.now link intake.new) }
 {
     let began = begin(rt, stream)?;
     let caller = hear(rt, stream, intake, &door.bank, began)?;
+    *said = Some(caller);
     let pair = link_of(door, caller)?;
     let own = draw(rt)?;
     let link = pair.over(&joined(&intake.nonce(), &own));

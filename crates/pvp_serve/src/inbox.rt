@@ -1,8 +1,9 @@
 //! What comes to the loop of a process.
 
 use crate::lanes::Lane;
+use crate::telling::TurnedAway;
 use crossbeam_channel::Sender;
-use pvp_links::{Arrival, LinkEnd, LinkFault};
+use pvp_links::{Arrival, LinkEnd};
 use std::sync::Wait;
 
 /// What the loop takes, one after another.
@@ -22,7 +23,7 @@ pub enum Inbox {
         end: LinkEnd,
     },
     /// A stream that a stranger opened was turned away; `None` where there were too many.
-    Away(Option<LinkFault>),
+    Away(Option<TurnedAway>),
     /// A beat of the clock.
     Tick,
     /// A line of the terminal.

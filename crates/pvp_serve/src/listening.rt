@@ -6,12 +6,13 @@ use crate::greeting::answer;
 use crate::host::Wires;
 use crate::inbox::{Inbox, tell};
 use crate::streams::{announce, read_all, settle, write_all};
+use crate::telling::TurnedAway;
 use crossbeam_channel::Sender;
 use pvp_links::{Intake, Link, LinkFault};
 use pvp_places::Keys;
 use std::alloc::Global;
 use std::collections::VecDeque;
-use std::net::{Shutdown, TcpListener, TcpStream};
+use std::net::{Shutdown, SocketAddr, TcpListener, TcpStream};
 use std::sync::Arc;
 use std::sync::atomic::{AtomicBool, AtomicU64, Ordering};
 use std::time::Duration;
@@ -71,6 +72,14 @@ impl Stranger {
     }
 }
 
+/// A stream that came, its number among all, and where from.
+#[derive(Drop)]
+struct Arrived {
+    stream: TcpStream,
+    number: u64,
+    from: SocketAddr,
+}
+
 /// Takes each stream that is opened to a site, in a thread of its own. It ends with the process.
 pub fn accept_all<R: Wires>(
     rt: R,
@@ -83,20 +92,24 @@ pub fn accept_all<R: Wires>(
         all: VecDeque::new(rt.alloc()),
     };
     for _ in rt.forever() {
-        let Ok((stream, _address)) = listener.accept() else {
+        let Ok((stream, from)) = listener.accept() else {
             thread::sleep(&rt, Duration::from_millis(10));
             continue;
         };
         number = number.saturating_add(1);
-        let _taken = take(rt, stream, number, &door, &inbox, &mut strangers);
+        let arrived = Arrived {
+            stream,
+            number,
+            from,
+        };
+        let _taken = take(rt, arrived, &door, &inbox, &mut strangers);
     }
 }
 
 /// Serves a stream in a thread of its own, where there are not too many. `Err` where memory is refused: then it is closed.
 fn take<R: Wires>(
     rt: R,
-    stream: TcpStream,
-    number: u64,
+    arrived: Arrived,
     door: &Arc<Door, Global>,
     inbox: &Sender<Inbox>,
     strangers: &mut Strangers,
@@ -108,10 +121,10 @@ fn take<R: Wires>(
         let _told = tell(&rt, &told, Inbox::Away(None));
         return Ok(());
     }
-    strangers.comes(&stream, &is_known)?;
+    strangers.comes(&arrived.stream, &is_known)?;
     door.open.fetch_add(1, Ordering::SeqCst);
     let spawned = thread::spawn(&rt, move || {
-        receive(rt, stream, number, &theirs, told, is_known);
+        receive(rt, arrived, &theirs, told, is_known);
         theirs.open.fetch_sub(1, Ordering::SeqCst);
     });
     if spawned.is_err() {
@@ -123,8 +136,7 @@ fn take<R: Wires>(
 /// Serves a stream, and informs the loop where it is turned away.
 fn receive<R: Wires>(
     rt: R,
-    stream: TcpStream,
-    number: u64,
+    arrived: Arrived,
     door: &Door,
     inbox: Sender<Inbox>,
     is_known: Arc<AtomicBool, Global>,
@@ -132,13 +144,23 @@ fn receive<R: Wires>(
     let Ok(told) = inbox.clone() else {
         return;
     };
-    if let Err(why) = welcome(rt, stream, number, door, inbox, is_known) {
-        let _told = tell(&rt, &told, Inbox::Away(Some(why)));
+    let Arrived {
+        stream,
+        number,
+        from,
+    } = arrived;
+    let mut said = None;
+    if let Err(why) = welcome(rt, stream, number, door, inbox, is_known, &mut said) {
+        let _told = tell(
+            &rt,
+            &told,
+            Inbox::Away(Some(TurnedAway { why, from, said })),
+        );
     }
 }
 
 /// Hears who speaks, and serves the stream to its end. `Err` where that is no actor that may talk to this one, or memory is
-/// refused: then the stream is closed, of which another holds an end too.
+/// refused: then the stream is closed, of which another holds an end too, and `said` is whom it said to be, if it did.
 fn welcome<R: Wires>(
     rt: R,
     stream: TcpStream,
@@ -146,10 +168,11 @@ fn welcome<R: Wires>(
     door: &Door,
     inbox: Sender<Inbox>,
     is_known: Arc<AtomicBool, Global>,
+    said: &mut Option<u16>,
 ) -> Result<(), LinkFault> {
     let mut stream = stream;
     let mut intake = Intake::new(rt.alloc());
-    match attend(rt, &mut stream, number, &mut intake, door, &inbox) {
+    match attend(rt, &mut stream, number, &mut intake, door, &inbox, said) {
         Err(why) => {
             let _closed = stream.shutdown(Shutdown::Both);
             Err(why)
@@ -171,11 +194,12 @@ fn attend<R: Wires>(
     intake: &mut Intake,
     door: &Door,
     inbox: &Sender<Inbox>,
+    said: &mut Option<u16>,
 ) -> Result<(Link, Arc<AtomicBool, Global>), LinkFault>
     ensures { IfOk result (λ heard. IsLetIn door.now heard.0 intake.new) }
 {
     let _settled = settle(stream);
-    let link = answer(rt, stream, intake, door)?;
+    let link = answer(rt, stream, intake, door, said)?;
     let Ok(theirs) = stream.try_clone() else {
         return Err(LinkFault::NoMemory);
     };

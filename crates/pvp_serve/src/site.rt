@@ -376,8 +376,8 @@ impl SiteDesk {
                 self.loses(serving, peer, stream);
                 Ok(())
             }
-            Inbox::Away(why) => {
-                self.teller.turns_away(why);
+            Inbox::Away(who) => {
+                self.teller.turns_away(who);
                 Ok(())
             }
             Inbox::Line(text) => {

@@ -20,6 +20,7 @@ use pvp_links::{LinkEnd, LinkFault};
 use pvp_trace::names::push_actor;
 use pvp_types::Setup;
 use std::alloc::{AllocError, Global};
+use std::net::SocketAddr;
 use vr_types::Status;
 
 /// After how many ticks it reports what was turned away or lost since.
@@ -33,6 +34,14 @@ struct Stood {
     is_full: bool,
 }
 
+/// Who was turned away: why, from where it called, and whom it said to be, where it came so far.
+#[derive(Clone, Copy)]
+pub struct TurnedAway {
+    pub why: LinkFault,
+    pub from: SocketAddr,
+    pub said: Option<u16>,
+}
+
 /// What a site has reported, so that it does not report it again.
 #[derive(Drop)]
 pub struct Teller {
@@ -40,9 +49,9 @@ pub struct Teller {
     stood: Option<Stood>,
     /// The stream that ended last with something wrong: whose, and why.
     ended: Option<(u16, LinkFault)>,
-    /// How many streams were turned away, and why the last.
+    /// How many streams were turned away, and whose the last was.
     away: u64,
-    why: Option<LinkFault>,
+    last: Option<TurnedAway>,
     /// What was reported of them and of lost frames.
     told: Tally,
     ticks: u32,
@@ -67,7 +76,7 @@ impl Teller {
             stood: None,
             ended: None,
             away: 0,
-            why: None,
+            last: None,
             told: Tally {
                 away: 0,
                 lost: 0,
@@ -78,12 +87,12 @@ impl Teller {
     }
 
     /// A stream was turned away that a stranger opened.
-    pub fn turns_away(&mut self, why: Option<LinkFault>)
-        ensures { self.new ≡ turned_away why self.old }
+    pub fn turns_away(&mut self, who: Option<TurnedAway>)
+        ensures { self.new ≡ turned_away who self.old }
     {
         self.away = self.away.saturating_add(1);
-        if why.is_some() {
-            self.why = why;
+        if who.is_some() {
+            self.last = who;
         }
     }
 
@@ -122,11 +131,25 @@ impl Teller {
         let _told = eprintln!(rt;
             "turned away {away} streams, lost {far} frames of far clocks and {many} in floods, passed over {passed}"
         );
-        if let Some(why) = self.why {
-            let _also = eprintln!(rt; "turned away the last: {why}");
+        if let Some(last) = self.last {
+            self.tells_last(rt, last);
         }
         self.names(rt, "far clock", lost.last);
         self.names(rt, "flood", flood.last);
+    }
+
+    /// Tells who was turned away last.
+    fn tells_last<R: Host>(&self, rt: R, last: TurnedAway) {
+        let TurnedAway { why, from, said } = last;
+        let Some(said) = said else {
+            let _told = eprintln!(rt; "turned away the last: {why}, from {from}");
+            return;
+        };
+        let name = self.name_of(rt.alloc(), said);
+        let _told = eprintln!(rt;
+            "turned away the last: {why}, from {from} as {}",
+            name.as_str()
+        );
     }
 
     /// Names whose the last frame was that was lost so.
