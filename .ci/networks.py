@@ -108,7 +108,7 @@ class Wire:
         self.is_open.wait()
         if self.plays:
             with ours, contextlib.suppress(OSError):
-                ours.sendall(self.back)
+                ours.sendall(bytes(self.back))
                 drained(ours)
             return
         with ours, contextlib.suppress(OSError), socket.create_connection(("127.0.0.1", self.port)) as theirs:

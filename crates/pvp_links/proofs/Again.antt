@@ -38,14 +38,17 @@ record IsText (text : List ℕ) : Type 0 where
   counts : length text ≡ 4 + big_number 4 text
 
 behind : (link : Link) (text rest : List ℕ) → 4 ≤ length text → big_number 4 (sealed_from link.peer link text ++ rest) ≡ big_number 4 text
-behind link text rest long = ap (big_number 4) (append_assoc text (tag link.peer link text) rest) ∙ big_from-append 4 text (tag link.peer link text ++ rest) long
+behind link text rest long =
+    let t = tag link.peer link text in
+    ap (big_number 4) (append_assoc text t rest) ∙ big_from-append 4 text (t ++ rest) long
 
 size-there : (link : Link) (text rest : List ℕ) → IsText text → size_at link (sealed_from link.peer link text ++ rest) ≡ Ok (Some (length text))
 unfolding size_at
 size-there link text rest h =
     let bytes = sealed_from link.peer link text ++ rest in
     let number-is = behind link text rest h.long in
-    let long : nat_lt (length bytes) 4 ≡ false = le-ltb _ _ (omega (arith, length-append (sealed_from link.peer link text) rest, sealed-length link.peer link text, h.long)) in
+    let sealed = sealed-length link.peer link text in
+    let long : nat_lt (length bytes) 4 ≡ false = le-ltb _ _ (omega (arith, length-append (sealed_from link.peer link text) rest, sealed, h.long)) in
     let listed : is_length (big_number 4 bytes) ≡ true = ap is_length number-is ∙ h.listed in
     let size : 4 + big_number 4 bytes ≡ length text = omega (arith, number-is, h.counts) in
     let found : sealed_at link (4 + big_number 4 bytes) bytes ≡ Ok true = ap (λ (n : ℕ). sealed_at link n bytes) size ∙ there link text rest in

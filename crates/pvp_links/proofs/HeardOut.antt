@@ -43,8 +43,8 @@ pieces_on link bytes more (s ∷ said) left h =
     )
 
 -- pieces more
-pub pieces_more : (link : Link) (bytes mid left : List ℕ) (said more : List Said) → ArePieces link bytes said mid → ArePieces (link_after link said) mid more left
-    → ArePieces link bytes (said ++ more) left
+pub pieces_more : (link : Link) (bytes mid left : List ℕ) (said more : List Said) → ArePieces link bytes said mid
+    → ArePieces (link_after link said) mid more left → ArePieces link bytes (said ++ more) left
 pieces_more link bytes mid left [] more h k = subst (λ (l : List ℕ). ArePieces link l more left) (sym h) k
 pieces_more link bytes mid left (s ∷ said) more h k = (h.0, h.1, pieces_more (next link) (drop h.0 bytes) mid left said more h.2 k)
 
@@ -117,7 +117,8 @@ module _ {H : Type 0} (got : H → List Said → Type 0) (link : Link) where
   }
 
   -- bytes more
-  pub taking_on : (at : Link) (bytes more left : List ℕ) (a b : H) → IsTaking got link at bytes left a b → IsTaking got link at (bytes ++ more) (left ++ more) a b
+  pub taking_on : (at : Link) (bytes more left : List ℕ) (a b : H) → IsTaking got link at bytes left a b
+      → IsTaking got link at (bytes ++ more) (left ++ more) a b
   taking_on at bytes more left a b h =
       record { said = h.said; pieces = pieces_on link bytes more h.said left h.pieces; behind = h.behind; heard = h.heard }
 

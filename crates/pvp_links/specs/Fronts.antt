@@ -17,7 +17,8 @@ use Rattle.pvp_links.specs.Sealing.{tag, tag_size, sealed_from, sealed_text, hel
 unfoldable pub sealed_at : Link → ℕ → List ℕ → Result Bool LinkFault
 sealed_at link size bytes =
     if nat_lt (length bytes) (size + tag_size link) then Ok false
-    else if not (bytes_eq (tag link.peer link (take size bytes)) (take (tag_size link) (drop size bytes))) then Err fault.Tag
+    else if not (bytes_eq (tag link.peer link (take size bytes)) (take (tag_size link) (drop size bytes)))
+    then Err fault.Tag
     else Ok true
 
 -- ---- hellos

@@ -47,7 +47,8 @@ sealed_from sender link text = text ++ tag sender link text
 abbrev pub sealed_text : Link → List ℕ → List ℕ
 sealed_text link text = sealed_from link.me link text
 
--- how many bytes of a hello its length counts: the number of an actor, the id of a bank and what was drawn for the stream
+-- how many bytes of a hello its length counts: the number of an actor, the id of a bank, and what was drawn for the
+-- stream
 abbrev pub hello_length : ℕ
 hello_length = 50
 

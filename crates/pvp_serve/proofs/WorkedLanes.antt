@@ -1,5 +1,5 @@
 -- Over which stream mail goes, by rows: of two streams the one is to actor 1, the other to actor 2.
-use Rattle.std.proofs.Common.{◌≡◌, ◌==◌, ℕ, Bool, true, false, not, ◌&&◌, if◌then◌else◌, [], ◌∷◌, List, Option, Some, None, ap, ◌∙◌}
+use Rattle.std.proofs.Common.{◌≡◌, ◌==◌, ℕ, Bool, true, false, not, ◌&&◌, if◌then◌else◌, [], ◌∷◌, List, Option, Some, None, ap, ◌∙◌, refl}
 use Rattle.std.specs.Prelude.{is_some}
 use Rattle.pvp_serve.specs.declared.lanes.Lane.{Lane}
 use Rattle.pvp_serve.specs.declared.lanes.Lanes.{Lanes}

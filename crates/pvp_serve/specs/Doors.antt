@@ -33,8 +33,8 @@ pub record IsKnown (door : Door) (caller : ℕ) (link : Link) : Type 0 where
 abbrev pub Shows : Link → Link → List ℕ → Type 0
 Shows link now rest = (held : List ℕ) × TakesHello link held (Ok true) rest × (now ≡ next link)
 
--- WHO IS LET IN: who says so in a hello of this bank, and is known; and shows itself by a tag that is over what it drew for
--- this stream and what this end drew for it
+-- WHO IS LET IN: who says so in a hello of this bank, and is known; and shows itself by a tag that is over what it
+-- drew for this stream and what this end drew for it
 pub record IsLetIn (door : Door) (link : Link) (rest : List ℕ) : Type 0 where
   pub held : List ℕ
   pub caller : ℕ

@@ -12,8 +12,8 @@ loop-init g c = taking_none g.H.Hearer.got c.args.link.now c.args.intake.now c.a
 
 pub returns-in-Err : goal.returns-in-Err
 returns-in-Err g c =
-    subst (λ (e : LinkEnd). HasTaken g.H.Hearer.got c.args.link.now c.loop.link c.args.intake.now c.next-in-loop.new.self c.args.hearer.now c.loop.hearer (Some e))
-    (sym c.end_at.ensures)
+    subst (λ (e : LinkEnd). HasTaken g.H.Hearer.got c.args.link.now c.loop.link c.args.intake.now c.next-in-loop.new.self c.args.hearer.now
+    c.loop.hearer (Some e)) (sym c.end_at.ensures)
     (wrong g.H.Hearer.got c.args.link.now c.loop.link c.args.intake.now c.loop.intake c.next-in-loop.new.self c.args.hearer.now c.loop.hearer c.in-Err.fault
     c.loop.invariant c.in-Err.ensures)
 
