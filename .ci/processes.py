@@ -223,8 +223,17 @@ class Bank:
         self.stop(rest)
         return self.is_judged()
 
+    def is_level(self):
+        """Whether all sites are normal, in one view, and have executed the same rows and all that they have."""
+        shown = {it.asks("status").partition(" hears")[0] for it in self.sites}
+        return len(shown) == 1 and re.fullmatch(r"normal view \d+ log (\d+) done \1", *shown)
+
     def ends_level(self, rest=0.5):
-        """Ends so, and demands that the sites stand at the same row."""
+        """Ends so once the sites stand at the same row, and demands that they still do then."""
+        end = time.monotonic() + PATIENCE
+        while not self.is_level():
+            demand(time.monotonic() < end, f"the sites do not come to stand at one row; they told {[it.told[-1:] for it in self.sites]}")
+            time.sleep(0.1)
         block = self.ends(rest)
         demand(len({tuple(it.book) for it in block.sites.values()}) == 1, "the books of the sites differ")
 

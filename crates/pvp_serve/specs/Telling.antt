@@ -1,5 +1,5 @@
 -- What a site has reported to its operator.
-use Rattle.std.specs.Prelude.{ℕ, ◌+◌, ◌-◌, ◌^◌, ◌==◌, ◌&&◌, Bool, not, min, nat_le, List, Option, Some, None, is_some, codes, if◌then◌else◌}
+use Rattle.std.specs.Prelude.{ℕ, ◌+◌, ◌-◌, ◌^◌, ◌==◌, ◌&&◌, Bool, not, min, nat_le, List, Option, Some, None, codes, if◌then◌else◌}
 use Rattle.vr_types.specs.declared.event.Status.{Status}
 use Rattle.vr_types.specs.declared.event.Status.TheVariants.{Normal, Change, Recovering, Down}
 use Rattle.pvp_types.specs.declared.setup.Setup.{Setup}
@@ -33,10 +33,9 @@ status_word Change = codes "change"
 status_word Recovering = codes "recovering"
 status_word Down = codes "down"
 
--- A STREAM MORE was turned away: whose is kept where that is known
+-- A STREAM MORE was turned away: whose, where that is known
 abbrev pub turned_away : Option TurnedAway → Teller → Teller
-turned_away who teller =
-    record teller { away = min (teller.away + 1) (2 ^ 64 - 1); last = if is_some who then who else teller.last }
+turned_away who teller = record teller { away = min (teller.away + 1) (2 ^ 64 - 1); last = who }
 
 -- THE LAST STREAM that ended with something wrong, once one more has ended
 abbrev pub ended_after : ℕ → LinkEnd → Option (ℕ × LinkFault) → Option (ℕ × LinkFault)
@@ -54,7 +53,7 @@ is_to_tell teller lost flood =
 abbrev pub told_after : Teller → ℕ → ℕ → Teller
 told_after teller lost flood =
     if is_to_tell teller lost flood then
-    record teller { ticks = 0; told = record { away = teller.away; lost = lost; flood = flood } }
+    record teller { ticks = 0; told = record { away = teller.away; lost = lost; flood = flood }; last = None }
     else record teller { ticks = up_to_most (teller.ticks + 1) }
 
 -- what is reported of a site's status

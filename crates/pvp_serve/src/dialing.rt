@@ -3,9 +3,9 @@
 use crate::greeting::call;
 use crate::host::Wires;
 use crate::inbox::Inbox;
-use crate::streams::{announce, read_all, settle, write_all};
+use crate::streams::{announce, read_all, settle, tell_gone, write_all};
 use crossbeam_channel::Sender;
-use pvp_links::{Intake, Link};
+use pvp_links::{Intake, Link, LinkEnd};
 use pvp_places::Address;
 use std::io::{self, ErrorKind};
 use std::net::{IpAddr, Ipv4Addr, SocketAddr, TcpStream};
@@ -109,6 +109,7 @@ fn hold<R: Wires>(
         read_all(rt, theirs, number, link, intake, told, ended)
     });
     if reader.is_err() {
+        tell_gone(rt, inbox, link.peer(), number, LinkEnd::NoMemory);
         return Err(io::Error::from(ErrorKind::OutOfMemory));
     }
     write_all(rt, stream, link, outgoing);

@@ -18,8 +18,11 @@ const NONCE_BYTES: usize = 16;
 /// How many seconds the other end has to show who it is.
 const HELLO_SECONDS: u64 = 5;
 
-/// How many bytes a hello has at most, with its tag; and how many reads it may take.
+/// How many bytes a hello has at most, with its tag.
 const HELLO_BYTES: usize = 70;
+
+/// How many reads it may take: more than it has bytes.
+const MOST_READS: usize = 128;
 
 /// Hears who calls over a stream that was opened to a site, and has it show that it is there now. Answers the link; what came
 /// behind is still in the intake. `Err` where that is no actor that may talk to this one, or it does not show itself in time;
@@ -124,7 +127,7 @@ fn hear<R: Wires>(
     ensures said { IfOk result (λ actor. caller_at bank.now intake.new ≡ Ok (Some actor)) }
     ensures whole { IfOk result (λ _. 4 + hello_length ≤ length intake.new) }
 {
-    for _ in 0..HELLO_BYTES {
+    for _ in 0..MOST_READS {
         if let Some(actor) = intake.caller(bank)? {
             return Ok(actor);
         }
@@ -143,7 +146,7 @@ fn shown<R: Wires>(
 ) -> Result<Link, LinkFault>
     ensures { IfOk result (λ shown. Shows link shown intake.new) }
 {
-    for _ in 0..HELLO_BYTES {
+    for _ in 0..MOST_READS {
         if intake.take_hello(&link)? {
             let _forever = stream.set_read_timeout(None);
             return Ok(behind_hello(link));

@@ -5,10 +5,10 @@ ghost use Rattle.pvp_serve.specs.Doors.{IsLetIn};
 use crate::greeting::answer;
 use crate::host::Wires;
 use crate::inbox::{Inbox, tell};
-use crate::streams::{announce, read_all, settle, write_all};
+use crate::streams::{announce, read_all, settle, tell_gone, write_all};
 use crate::telling::TurnedAway;
 use crossbeam_channel::Sender;
-use pvp_links::{Intake, Link, LinkFault};
+use pvp_links::{Intake, Link, LinkEnd, LinkFault};
 use pvp_places::Keys;
 use std::alloc::Global;
 use std::collections::VecDeque;
@@ -21,8 +21,9 @@ use std::{io, thread};
 /// How many streams are read at once; further ones are closed.
 const MOST_STREAMS: u64 = 256;
 
-/// How many of them may be of openers who have not said yet who they are.
-const MOST_STRANGERS: usize = 64;
+/// How many of them may be of openers who have not shown yet who they are. Beside these a bank's sites, nodes and clients have
+/// room; and as many as come while an honest opener's answer is on its way do not crowd it out.
+const MOST_STRANGERS: usize = 160;
 
 /// What each stream of a site needs to know.
 #[derive(Drop)]
@@ -48,6 +49,13 @@ struct Strangers {
 }
 
 impl Strangers {
+    /// The last that came is closed, as no thread serves it.
+    fn goes(&mut self) {
+        if let Some(last) = self.all.pop_back() {
+            last.leaves();
+        }
+    }
+
     /// A stream more. Where there are too many the oldest is closed, if its opener has not said who it is: so who opens many
     /// and says nothing keeps nobody out who speaks at once.
     fn comes(&mut self, stream: &TcpStream, is_known: &Arc<AtomicBool, Global>) -> io::Result<()> {
@@ -129,6 +137,8 @@ fn take<R: Wires>(
     });
     if spawned.is_err() {
         door.open.fetch_sub(1, Ordering::SeqCst);
+        strangers.goes();
+        let _told = tell(&rt, inbox, Inbox::Away(None));
     }
     Ok(())
 }
@@ -211,6 +221,9 @@ fn attend<R: Wires>(
     };
     match thread::spawn(&rt, move || write_all(rt, theirs, link, outgoing)) {
         Ok(_thread) => Ok((link, ended)),
-        Err(_) => Err(LinkFault::NoMemory),
+        Err(_) => {
+            tell_gone(rt, inbox, link.peer(), number, LinkEnd::NoMemory);
+            Err(LinkFault::NoMemory)
+        }
     }
 }

@@ -9,7 +9,7 @@ use crate::inbox::{Inbox, tell};
 use crate::lanes::{Outgoing, lane_to};
 use crate::ticking::latest_clock;
 use crossbeam_channel::Sender;
-use pvp_links::{Hearer, Intake, Link, Piece, hear_all, put_frame, put_ping};
+use pvp_links::{Hearer, Intake, Link, LinkEnd, Piece, hear_all, put_frame, put_ping};
 use std::alloc::{AllocError, Global};
 use std::io::{self, Write};
 use std::net::{Shutdown, TcpStream};
@@ -237,13 +237,10 @@ pub fn read_all<R: Wires>(
     };
     let end = hear_all(&rt, rt.alloc(), &link, intake, &mut stream, &mut to_loop);
     let _closed = stream.shutdown(Shutdown::Both);
-    let _told = tell(
-        &rt,
-        &inbox,
-        Inbox::Gone {
-            peer,
-            stream: number,
-            end,
-        },
-    );
+    tell_gone(rt, &inbox, peer, number, end);
+}
+
+/// Tells the loop that a stream of which it knows has ended, and why.
+pub fn tell_gone<R: Wires>(rt: R, inbox: &Sender<Inbox>, peer: u16, stream: u64, end: LinkEnd) {
+    let _told = tell(&rt, inbox, Inbox::Gone { peer, stream, end });
 }

@@ -49,7 +49,7 @@ pub struct Teller {
     stood: Option<Stood>,
     /// The stream that ended last with something wrong: whose, and why.
     ended: Option<(u16, LinkFault)>,
-    /// How many streams were turned away, and whose the last was.
+    /// How many streams were turned away, and whose the last was, where it is known and not reported yet.
     away: u64,
     last: Option<TurnedAway>,
     /// What was reported of them and of lost frames.
@@ -91,9 +91,7 @@ impl Teller {
         ensures { self.new ≡ turned_away who self.old }
     {
         self.away = self.away.saturating_add(1);
-        if who.is_some() {
-            self.last = who;
-        }
+        self.last = who;
     }
 
     /// A stream has ended: what was wrong with it is reported, but not the same twice in a row.
@@ -134,6 +132,7 @@ impl Teller {
         if let Some(last) = self.last {
             self.tells_last(rt, last);
         }
+        self.last = None;
         self.names(rt, "far clock", lost.last);
         self.names(rt, "flood", flood.last);
     }
