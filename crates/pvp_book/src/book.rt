@@ -153,8 +153,15 @@ impl Book {
         ensures { result ≡ option_map (λ p. p.reference)
             (slice_get (queue self.now.setup self.now.entries) at) }
     {
-        let pair = kept_pair::waiting_at(self.line.as_slice(), &self.pairs, at)?;
+        let pair = self.waiting(at)?;
         Some(pair.reference)
+    }
+
+    /// The waiting pair at a place of that order.
+    pub fn waiting(&self, at: usize) -> Option<Pair>
+        ensures { result ≡ slice_get (queue self.now.setup self.now.entries) at }
+    {
+        kept_pair::waiting_at(self.line.as_slice(), &self.pairs, at)
     }
 
     /// The outstanding order at a place, counted from 0, with the client number of its node. Orders are sorted by

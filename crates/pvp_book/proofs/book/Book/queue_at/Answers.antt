@@ -1,15 +1,11 @@
 use Rattle.std.proofs.Common.{ap, sym, ◌∙◌}
 use Rattle.std.specs.Option.{option_map}
 use Rattle.pvp_book.specs.declared.pair.Pair.{Pair}
-use Rattle.pvp_book.proofs.BookLemmas.{queue-at}
 use Rattle.pvp_book.proofs.book.Book.queue_at.Goals as goal
 
 pub returns-in_err-pair : goal.returns-in_err-pair
 returns-in_err-pair c =
-    c.from_residual.ensures ∙ ap (option_map (λ (p : Pair). p.reference))
-    (sym c.in_err-pair.was ∙ queue-at c.args.at c.self.invariant c.self.view_is c.as_slice.ensures.value c.waiting_at.ensures)
+    c.from_residual.ensures ∙ ap (option_map (λ (p : Pair). p.reference)) (sym c.in_err-pair.was ∙ c.waiting.ensures)
 
 pub returns : goal.returns
-returns c =
-    ap (option_map (λ (p : Pair). p.reference))
-    (sym c.in_ok-pair.was ∙ queue-at c.args.at c.self.invariant c.self.view_is c.as_slice.ensures.value c.waiting_at.ensures)
+returns c = ap (option_map (λ (p : Pair). p.reference)) (sym c.in_ok-pair.was ∙ c.waiting.ensures)
