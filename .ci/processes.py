@@ -1,4 +1,5 @@
 """Banks whose actors are processes of the program, over the loopback of this machine, and frames that strangers send them."""
+import calendar
 import json
 import os
 import pathlib
@@ -84,8 +85,14 @@ class Process:
     def read(self, stream, lines):
         for line in stream:
             with self.said:
-                lines.append(line.rstrip("\n"))
+                lines.append(self.bare(line.rstrip("\n")) if lines is self.told else line.rstrip("\n"))
                 self.said.notify_all()
+
+    def bare(self, line):
+        """What stands behind the heading of a line that was told now, where that is right: its time, its actor and its level."""
+        found = re.match(rf"(\S+Z) {self.name} (info (?=\w+ view |reads )|warn (?!\w+ view |reads ))", line)
+        is_now = found and abs(time.time() - calendar.timegm(time.strptime(found[1], "%Y-%m-%dT%H:%M:%SZ"))) < PATIENCE
+        return line[found.end() :] if is_now else line
 
     def say(self, *lines):
         self.process.stdin.write("".join(f"{it}\n" for it in lines))

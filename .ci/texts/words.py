@@ -107,6 +107,7 @@ X8  the folder has no actor: `pvpsim begin` makes one, once; one that was lost m
 X9  an actor was begun in the folder before, and may not be begun again
 X10  the client has used up its share of the log's rows: what is left of them is for letting money out
 X11  the rows that the log has left are for letting money out
+X12  a window opens at an address of this machine alone
 """
 
 

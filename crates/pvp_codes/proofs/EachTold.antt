@@ -123,5 +123,6 @@ each-told (Folder folder.History) other = refl
 each-told (Folder folder.Open) other = refl
 each-told (Folder folder.Unbegun) other = refl
 each-told (Folder folder.Begun) other = refl
+each-told (Folder folder.Window) other = refl
 each-told (Terminal terminal.Share) other = refl
 each-told (Terminal terminal.Full) other = refl

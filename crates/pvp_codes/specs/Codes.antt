@@ -179,7 +179,7 @@ all_codes =
     ++ map (λ fault. Shelf fault) shelf_faults
     ++ map (λ why. Place why) place_whys
     ++ map (λ why. Folder why) folder_whys
-    ++ map (λ why. Terminal why) terminal_whys
+    ++ map (λ why. Terminal why) terminal_whys ++ Folder folder.Window ∷ []
 
 -- a line: the code, two spaces, its meaning
 abbrev pub code_line : Code → List ℕ

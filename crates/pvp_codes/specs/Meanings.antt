@@ -154,6 +154,7 @@ folder_meaning folder.Open = codes "without keys a site listens on this machine 
 folder_meaning folder.Unbegun =
     codes "the folder has no actor: `pvpsim begin` makes one, once; one that was lost may not be made anew"
 folder_meaning folder.Begun = codes "an actor was begun in the folder before, and may not be begun again"
+folder_meaning folder.Window = codes "a window opens at an address of this machine alone"
 
 -- what a terminal does not ask for
 abbrev pub terminal_meaning : TerminalWhy → List ℕ

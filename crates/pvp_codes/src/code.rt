@@ -48,7 +48,7 @@ pub enum Code {
     Shelf(ShelfFault),
     /// Q1 to Q6: of a line of a peers file or a keys file.
     Place(PlaceWhy),
-    /// X1 to X9: of an actor or its folder that no process can serve.
+    /// X1 to X9, and X12: of an actor or its folder that no process can serve.
     Folder(FolderWhy),
     /// X10 and X11: of what a terminal asks for.
     Terminal(TerminalWhy),

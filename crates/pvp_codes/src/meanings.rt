@@ -226,6 +226,7 @@ pub fn folder_meaning(why: FolderWhy) -> &'static str
         FolderWhy::Unbegun =>
             "the folder has no actor: `pvpsim begin` makes one, once; one that was lost may not be made anew",
         FolderWhy::Begun => "an actor was begun in the folder before, and may not be begun again",
+        FolderWhy::Window => "a window opens at an address of this machine alone",
     }
 }
 

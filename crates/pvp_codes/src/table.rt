@@ -22,7 +22,7 @@ use std::io::Write;
 use vr_types::SiteFault;
 
 /// All codes, in the order in which they are listed. M6 stands once, whatever is wrong in a record.
-const CODES: [Code; 103] = [
+const CODES: [Code; 104] = [
     Code::Setup(TextFault::NotJson),
     Code::Setup(TextFault::BadMember),
     Code::Setup(TextFault::BadSetup(SetupFault::SiteCount)),
@@ -126,6 +126,7 @@ const CODES: [Code; 103] = [
     Code::Folder(FolderWhy::Begun),
     Code::Terminal(TerminalWhy::Share),
     Code::Terminal(TerminalWhy::Full),
+    Code::Folder(FolderWhy::Window),
 ];
 
 /// Writes a line for each code that the program or one of its parts prints: the code, and what it means. Where memory is

@@ -403,6 +403,12 @@ const STAY_HELP: &str = "Keeps serving after standard input has ended, until it 
 
 const TRUST_HELP: &str = "Lets a site listen beyond this machine without keys";
 
+const HTTP_HELP: &str =
+    "Shows the actor over HTTP, at an address of this machine: where it stands, metrics, and at a site the book and a console";
+
+const HTTP_PEERS_HELP: &str =
+    "The windows of other actors, between commas, which the console reads, and whose pages may read this one";
+
 const LIVE_ABOUT: &str =
     "Runs a bank on threads while a script is played, with streams over this machine's loopback: if its run was legal, prints the books and `audit yes`, else the first test that fails";
 
@@ -512,7 +518,9 @@ fn with_order<'a>(alloc: Global) -> Result<Command<'a>, AllocError> {
         .arg(value(alloc, "patience", "N", PATIENCE_HELP))?
         .arg(flag(alloc, "sync", SYNC_HELP))?
         .arg(flag(alloc, "stay", STAY_HELP))?
-        .arg(flag(alloc, "trust-network", TRUST_HELP))
+        .arg(flag(alloc, "trust-network", TRUST_HELP))?
+        .arg(value(alloc, "http", "HOST:PORT", HTTP_HELP))?
+        .arg(value(alloc, "http-peers", "HOST:PORT,..", HTTP_PEERS_HELP))
 }
 
 /// A word of a command that stands behind a name.

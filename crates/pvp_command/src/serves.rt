@@ -69,7 +69,7 @@ pub fn tell_served<E: Write>(told: Result<(), ServeFault>, explains: bool, err: 
 /// The error for words that name no actor, or no number where one stands.
 pub const NO_TASK: &str =
     "`begin` and `serve` take one of `--site I`, `--node CCY` and `--client NAME`; `--beat` a number from 5 to 60000, and `--patience` one from 2 \
-to 1000, without a leading zero";
+to 1000, without a leading zero; `--http` HOST:PORT, and with it `--http-peers` such with commas between";
 
 /// The least and the most milliseconds from beat to beat, and those that are meant where none stand.
 const BEATS: (u32, u32, u32) = (5, 60_000, 50);
@@ -92,6 +92,11 @@ pub fn task_at<'a>(command: &str, words: &ArgMatches<'a>) -> Option<Task<'a>> {
 
 /// What the words ask to be served, and how.
 fn order_at<'a>(words: &ArgMatches<'a>) -> Option<Order<'a>> {
+    let http = window_at(words.get_str("http"))?;
+    let http_peers = window_at(words.get_str("http-peers"))?;
+    if http_peers.is_some() && http.is_none() {
+        return None;
+    }
     Some(Order {
         who: who_at(words)?,
         setup: words.get_str("setup")?,
@@ -103,7 +108,22 @@ fn order_at<'a>(words: &ArgMatches<'a>) -> Option<Order<'a>> {
         syncs: words.get_flag("sync"),
         stays: words.get_flag("stay"),
         trusts_network: words.get_flag("trust-network"),
+        http,
+        http_peers,
     })
+}
+
+/// The word for a window or several, where there is one, in letters, digits and what stands in addresses.
+fn window_at<'a>(word: Option<&'a str>) -> Option<Option<&'a str>> {
+    let Some(text) = word else {
+        return Some(None);
+    };
+    let is_plain = |b: &u8| b.is_ascii_alphanumeric() || b".-:[],".contains(b);
+    if text.contains(':') && text.as_bytes().iter().all(is_plain) {
+        Some(word)
+    } else {
+        None
+    }
 }
 
 /// Who is to be served: one actor.

@@ -25,6 +25,7 @@ folder_code folder.History = codes "X6"
 folder_code folder.Open = codes "X7"
 folder_code folder.Unbegun = codes "X8"
 folder_code folder.Begun = codes "X9"
+folder_code folder.Window = codes "X12"
 
 abbrev pub terminal_code : TerminalWhy → List ℕ
 terminal_code Share = codes "X10"

@@ -125,9 +125,11 @@ pub enum FolderWhy {
     Unbegun,
     /// X9: an actor was begun in the folder before.
     Begun,
+    /// X12: the window would open beyond this machine.
+    Window,
 }
 
-/// Writes the code as `X1` to `X9`.
+/// Writes the code as `X1` to `X9`, and `X12`.
 impl fmt::Display for FolderWhy {
     ghost use Rattle.std.specs.Prelude.{Some};
     ghost use Rattle.pvp_places.specs.Fault.{folder_code};
@@ -145,6 +147,7 @@ impl fmt::Display for FolderWhy {
             FolderWhy::Open => "X7",
             FolderWhy::Unbegun => "X8",
             FolderWhy::Begun => "X9",
+            FolderWhy::Window => "X12",
         })
     }
 }

@@ -12,7 +12,7 @@ pub mod peers;
 pub mod serving;
 pub mod words;
 
-pub use address::Address;
+pub use address::{Address, read_address};
 pub use fault::{FolderWhy, LineFault, PlaceFault, PlaceWhy, TerminalWhy};
 pub use keys::{Keys, read_keys, write_keys};
 pub use mark::{Mark, read_mark};

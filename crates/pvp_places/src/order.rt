@@ -35,6 +35,10 @@ pub struct Order<'a> {
     pub stays: bool,
     /// Whether a site may listen beyond this machine without keys.
     pub trusts_network: bool,
+    /// Where the actor is shown over HTTP, as HOST:PORT.
+    pub http: Option<&'a str>,
+    /// The windows of others, whose pages may read this one: HOST:PORT,HOST:PORT ..
+    pub http_peers: Option<&'a str>,
 }
 
 /// Which actor is begun, and where.

@@ -34,7 +34,7 @@ pub enum ServeFault {
         paper: Paper,
         actor: u16,
     },
-    /// X1 to X9: the actor or its folder is none that can be served.
+    /// X1 to X9, and X12: the actor or its folder is none that can be served.
     Folder(FolderWhy),
     /// M1 to M6: its journal is damaged where the head or record at this byte begins.
     Journal {

@@ -35,17 +35,14 @@ Shows link now rest = (held : List ℕ) × TakesHello link held (Ok true) rest �
 
 -- WHO IS LET IN: who says so in a hello of this bank, and is known; and shows itself by a tag that is over what it
 -- drew for this stream and what this end drew for it
-pub record IsLetIn (door : Door) (link : Link) (rest : List ℕ) : Type 0 where
+pub record IsLetIn (door : Door) (own : List ℕ) (link : Link) (rest : List ℕ) : Type 0 where
   pub held : List ℕ
   pub caller : ℕ
   pub pair : Link
-  pub own : List ℕ
   pub said : caller_at door.bank held ≡ Ok (Some caller)
   pub known : IsKnown door caller pair
   pub shows : Shows (over (nonce_at held ++ own) pair) link rest
 
 -- WHO ANSWERS A CALL: who shows itself by a tag that is over what this end drew for the stream and what it says it drew
-pub record IsAnswered (pair link : Link) (rest : List ℕ) : Type 0 where
-  pub own : List ℕ
-  pub theirs : List ℕ
-  pub shows : Shows (over (own ++ theirs) pair) link rest
+abbrev pub IsAnswered : Link → List ℕ → Link → List ℕ → Type 0
+IsAnswered pair own link rest = (theirs : List ℕ) × Shows (over (own ++ theirs) pair) link rest

@@ -10,3 +10,4 @@ pub mod Sites
 pub mod Telling
 pub mod Attending
 pub mod Opening
+pub mod Looks

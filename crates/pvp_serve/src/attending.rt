@@ -63,9 +63,9 @@ impl Desk {
     }
 
     /// Reports a site's status, where it has changed. Others report at once, as things come.
-    pub fn tell<R: Host>(&mut self, rt: R, standing: Option<Standing>) {
+    pub fn tell<R: Host>(&mut self, rt: R, me: u16, standing: Option<Standing>) {
         if let Desk::Site(desk) = self {
-            desk.tell(rt, standing);
+            desk.tell(rt, me, standing);
         }
     }
 }

@@ -73,11 +73,13 @@ ghost use Rattle.pvp_serve.specs.Terminals.{
 
 use crate::admission::refusal_of;
 use crate::answers::{Told, last_told, tell_outcome, tell_owed, tell_refusal};
+use crate::heading::{Heading, Level};
 use crate::host::Host;
 use crate::inbox::Inbox;
 use crate::lanes::Lanes;
 use crate::lines::event_of;
 use crate::serving::{Request, Serving};
+use crate::telling::tell_unshown;
 use headline::ClientEvent;
 use pvp_book::Book;
 use pvp_journal::{Letter, Log};
@@ -272,12 +274,12 @@ impl TerminalDesk {
         let _letters = serving.flush(&rt, rt.alloc(), false)?;
         serving.out_mut().favours(None);
         serving.take_event(rt.alloc(), PartyEvent::OfClient(ClientEvent::Beats))?;
-        self.tell_waiting(rt, serving.request());
+        self.tell_waiting(rt, serving.me(), serving.request());
         Ok(())
     }
 
     /// Reports from time to time that a client waits.
-    fn tell_waiting<R: Host>(&mut self, rt: R, request: Option<Request>)
+    fn tell_waiting<R: Host>(&mut self, rt: R, me: u16, request: Option<Request>)
         ensures { self.new ≡ record self.old { ticks = next_wait self.old.ticks } }
     {
         self.ticks = self.ticks.saturating_add(1);
@@ -287,19 +289,21 @@ impl TerminalDesk {
         self.ticks = 0;
         if let Some(request) = request {
             let number = request.number;
-            let _told = eprintln!(rt; "waits {number}");
+            let head = Heading::new(&rt, rt.alloc(), &self.setup, me, Level::Warn);
+            let _told = eprintln!(rt; "{head}waits {number}");
         }
     }
 
     /// A site pings a client or a node where the log is full: that is printed once.
-    fn tell_full<R: Host>(&mut self, rt: R, request: Option<Request>)
+    fn tell_full<R: Host>(&mut self, rt: R, me: u16, request: Option<Request>)
         ensures { self.new ≡ full_after request self.old }
     {
         if self.full.is_some() {
             return;
         }
         self.full = Some(made(request));
-        let _told = eprintln!(rt; "full");
+        let head = Heading::new(&rt, rt.alloc(), &self.setup, me, Level::Warn);
+        let _told = eprintln!(rt; "{head}full");
     }
 
     /// Why this terminal does not ask for an event of its actor, whose last request this is.
@@ -394,7 +398,8 @@ impl TerminalDesk {
             Ok(Some(event)) => self.ask_for(rt, serving, event),
             Err(code) => {
                 let number = asked.number;
-                let _told = eprintln!(rt; "fault line {number} {code}");
+                let head = Heading::new(&rt, alloc, &self.setup, serving.me(), Level::Warn);
+                let _told = eprintln!(rt; "{head}fault line {number} {code}");
                 Ok(())
             }
         }
@@ -480,10 +485,14 @@ impl TerminalDesk {
                 Ok(())
             }
             Inbox::Ping(_) => {
-                self.tell_full(rt, serving.request());
+                self.tell_full(rt, serving.me(), serving.request());
                 Ok(())
             }
-            Inbox::Away(_) => Ok(()),
+            Inbox::Unshown { peer, why } => {
+                tell_unshown(rt, &self.setup, serving.me(), peer, why);
+                Ok(())
+            }
+            Inbox::Away(_) | Inbox::Look(_) => Ok(()),
             Inbox::Line(text) => self.take_line(text),
             Inbox::End => {
                 self.ended = true;

@@ -1,11 +1,11 @@
 //! Streams that an actor opens: to each site that listens for it.
 
-use crate::greeting::call;
+use crate::greeting::{call, draw};
 use crate::host::Wires;
-use crate::inbox::Inbox;
+use crate::inbox::{Inbox, tell};
 use crate::streams::{announce, read_all, settle, tell_gone, write_all};
 use crossbeam_channel::Sender;
-use pvp_links::{Intake, Link, LinkEnd};
+use pvp_links::{Intake, Link, LinkEnd, LinkFault};
 use pvp_places::Address;
 use std::io::{self, ErrorKind};
 use std::net::{IpAddr, Ipv4Addr, SocketAddr, TcpStream};
@@ -23,6 +23,9 @@ const LAST_PAUSE: u64 = 200;
 /// The longest pause where somebody answers who is not the site.
 const REFUSED_PAUSE: u64 = 1_000;
 
+/// After how many tries in a row at which it does not show itself a site is reported.
+const UNSHOWN_TRIES: u32 = 3;
+
 /// How many addresses of a host are looked at.
 const MOST_ADDRESSES: usize = 4;
 
@@ -37,13 +40,24 @@ pub struct Dialed {
 pub fn dial<R: Wires>(rt: R, dialed: Dialed, inbox: Sender<Inbox>) {
     let mut pause = FIRST_PAUSE;
     let mut number = 0u64;
+    let mut unshown = 0u32;
     for _ in rt.forever() {
         number = number.saturating_add(1);
         pause = match connect(rt, &dialed.address) {
             Err(_) => pause.saturating_mul(2).min(LAST_PAUSE),
             Ok(stream) => match hold(rt, stream, number, &dialed.link, &inbox) {
-                Err(_) => pause.saturating_mul(2).min(REFUSED_PAUSE),
-                Ok(()) => FIRST_PAUSE,
+                Err(why) => {
+                    unshown = unshown.saturating_add(1);
+                    if unshown == UNSHOWN_TRIES {
+                        let peer = dialed.link.peer();
+                        let _told = tell(&rt, &inbox, Inbox::Unshown { peer, why });
+                    }
+                    pause.saturating_mul(2).min(REFUSED_PAUSE)
+                }
+                Ok(()) => {
+                    unshown = 0;
+                    FIRST_PAUSE
+                }
             },
         };
         thread::sleep(&rt, Duration::from_millis(pause));
@@ -91,26 +105,26 @@ fn hold<R: Wires>(
     number: u64,
     pair: &Link,
     inbox: &Sender<Inbox>,
-) -> io::Result<()> {
+) -> Result<(), LinkFault> {
     let mut stream = stream;
     let mut intake = Intake::new(rt.alloc());
-    let Ok(link) = call(rt, &mut stream, &mut intake, pair) else {
-        return Err(io::Error::from(ErrorKind::ConnectionRefused));
+    let own = draw(rt)?;
+    let link = call(rt, &mut stream, &mut intake, pair, &own)?;
+    let Ok(theirs) = stream.try_clone() else {
+        return Err(LinkFault::NoMemory);
     };
-    let theirs = stream.try_clone()?;
     let Ok(told) = inbox.clone() else {
-        return Err(io::Error::from(ErrorKind::OutOfMemory));
+        return Err(LinkFault::NoMemory);
     };
-    let Some(outgoing) = announce(rt, inbox, link.peer(), number) else {
-        return Err(io::Error::from(ErrorKind::OutOfMemory));
+    let Some((outgoing, ended)) = announce(rt, inbox, link.peer(), number) else {
+        return Err(LinkFault::NoMemory);
     };
-    let ended = outgoing.ended()?;
     let reader = thread::spawn(&rt, move || {
         read_all(rt, theirs, number, link, intake, told, ended)
     });
     if reader.is_err() {
         tell_gone(rt, inbox, link.peer(), number, LinkEnd::NoMemory);
-        return Err(io::Error::from(ErrorKind::OutOfMemory));
+        return Err(LinkFault::NoMemory);
     }
     write_all(rt, stream, link, outgoing);
     Ok(())

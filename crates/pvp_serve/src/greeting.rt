@@ -25,49 +25,50 @@ const HELLO_BYTES: usize = 70;
 const MOST_READS: usize = 128;
 
 /// Hears who calls over a stream that was opened to a site, and has it show that it is there now. Answers the link; what came
-/// behind is still in the intake. `Err` where that is no actor that may talk to this one, or it does not show itself in time;
-/// `said` is then whom it said to be, if it did.
+/// behind is still in the intake. `own` is what this end drew for the stream. `Err` where that is no actor that may talk to this
+/// one, or it does not show itself in time; `said` is then whom it said to be, if it did.
 pub fn answer<R: Wires>(
     rt: R,
     stream: &mut TcpStream,
     intake: &mut Intake,
     door: &Door,
+    own: &[u8; NONCE_BYTES],
     said: &mut Option<u16>,
 ) -> Result<Link, LinkFault>
-    ensures { IfOk result (λ link. IsLetIn door.now link intake.new) }
+    ensures { IfOk result (λ link. IsLetIn door.now own.now link intake.new) }
 {
     let began = begin(rt, stream)?;
     let caller = hear(rt, stream, intake, &door.bank, began)?;
     *said = Some(caller);
     let pair = link_of(door, caller)?;
-    let own = draw(rt)?;
-    let link = pair.over(&joined(&intake.nonce(), &own));
+    let link = pair.over(&joined(&intake.nonce(), own));
     intake.take_call();
-    say(rt, stream, &link, &own)?;
+    say(rt, stream, &link, own)?;
     shown(rt, stream, intake, link, began)
 }
 
 /// Says over a stream to a site who calls, and has the site show that it is there now. Answers the link; what came behind is
-/// still in the intake. `Err` where the site is another, or does not show itself in time.
+/// still in the intake. `own` is what this end drew for the stream. `Err` where the site is another, or does not show itself in
+/// time.
 pub fn call<R: Wires>(
     rt: R,
     stream: &mut TcpStream,
     intake: &mut Intake,
     pair: &Link,
+    own: &[u8; NONCE_BYTES],
 ) -> Result<Link, LinkFault>
-    ensures { IfOk result (λ link. IsAnswered pair.now link intake.new) }
+    ensures { IfOk result (λ link. IsAnswered pair.now own.now link intake.new) }
 {
     let began = begin(rt, stream)?;
-    let own = draw(rt)?;
     let mut called = Vec::new(rt.alloc());
-    if put_call(pair, &own, &mut called).is_err() {
+    if put_call(pair, own, &mut called).is_err() {
         return Err(LinkFault::NoMemory);
     }
     write(stream, &called)?;
     let _site = hear(rt, stream, intake, pair.bank(), began)?;
-    let link = pair.over(&joined(&own, &intake.nonce()));
+    let link = pair.over(&joined(own, &intake.nonce()));
     // it shows itself before it looks at the site's tag, so that a site can report a key that differs
-    say(rt, stream, &link, &own)?;
+    say(rt, stream, &link, own)?;
     shown(rt, stream, intake, link, began)
 }
 
@@ -97,8 +98,8 @@ fn begin<R: Wires>(rt: R, stream: &TcpStream) -> Result<Duration, LinkFault> {
     }
 }
 
-/// What this end draws. Where the machine has nothing to draw from, that is want of memory.
-fn draw<R: Wires>(rt: R) -> Result<[u8; NONCE_BYTES], LinkFault> {
+/// What this end draws for a stream. Where the machine has nothing to draw from, that is want of memory.
+pub fn draw<R: Wires>(rt: R) -> Result<[u8; NONCE_BYTES], LinkFault> {
     let mut nonce = [0; NONCE_BYTES];
     match rt.fill_bytes(&mut nonce) {
         Ok(()) => Ok(nonce),

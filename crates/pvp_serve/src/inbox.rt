@@ -3,7 +3,8 @@
 use crate::lanes::Lane;
 use crate::telling::TurnedAway;
 use crossbeam_channel::Sender;
-use pvp_links::{Arrival, LinkEnd};
+use pvp_links::{Arrival, LinkEnd, LinkFault};
+use pvp_window::Look;
 use std::sync::Wait;
 
 /// What the loop takes, one after another.
@@ -24,12 +25,25 @@ pub enum Inbox {
     },
     /// A stream that a stranger opened was turned away; `None` where there were too many.
     Away(Option<TurnedAway>),
+    /// A site that was called time and again does not show itself, the last time for this reason.
+    Unshown {
+        peer: u16,
+        why: LinkFault,
+    },
     /// A beat of the clock.
     Tick,
+    /// Somebody asks to see something of the actor. The loop answers once its batch is written.
+    Look(Look),
     /// A line of the terminal.
     Line(Vec<u8>),
     /// The terminal has ended.
     End,
+}
+
+impl From<Look> for Inbox {
+    fn from(look: Look) -> Inbox {
+        Inbox::Look(look)
+    }
 }
 
 /// Sends to a loop. `false` where it has ended or memory is refused: then the item is lost.

@@ -95,6 +95,11 @@ pub fn lane_to(alloc: Global, peer: u16, stream: u64) -> Result<(Lane, Outgoing)
 }
 
 impl Lane {
+    /// How many bytes wait for its stream.
+    pub fn waiting_bytes(&self) -> u64 {
+        self.waiting.load(Ordering::SeqCst)
+    }
+
     /// Whether it is to this actor.
     fn is_to(&self, peer: u16) -> bool
         ensures { result ≡ is_to peer self.now }

@@ -1,8 +1,8 @@
 //! Streams that others open to a site.
-ghost use Rattle.std.specs.Prelude.{IfOk};
+ghost use Rattle.std.specs.Prelude.{ℕ, List, IfOk};
 ghost use Rattle.pvp_serve.specs.Doors.{IsLetIn};
 
-use crate::greeting::answer;
+use crate::greeting::{answer, draw};
 use crate::host::Wires;
 use crate::inbox::{Inbox, tell};
 use crate::streams::{announce, read_all, settle, tell_gone, write_all};
@@ -206,17 +206,16 @@ fn attend<R: Wires>(
     inbox: &Sender<Inbox>,
     said: &mut Option<u16>,
 ) -> Result<(Link, Arc<AtomicBool, Global>), LinkFault>
-    ensures { IfOk result (λ heard. IsLetIn door.now heard.0 intake.new) }
+    ensures { IfOk result (λ heard.
+        (own : List ℕ) × IsLetIn door.now own heard.0 intake.new) }
 {
     let _settled = settle(stream);
-    let link = answer(rt, stream, intake, door, said)?;
+    let own = draw(rt)?;
+    let link = answer(rt, stream, intake, door, &own, said)?;
     let Ok(theirs) = stream.try_clone() else {
         return Err(LinkFault::NoMemory);
     };
-    let Some(outgoing) = announce(rt, inbox, link.peer(), number) else {
-        return Err(LinkFault::NoMemory);
-    };
-    let Ok(ended) = outgoing.ended() else {
+    let Some((outgoing, ended)) = announce(rt, inbox, link.peer(), number) else {
         return Err(LinkFault::NoMemory);
     };
     match thread::spawn(&rt, move || write_all(rt, theirs, link, outgoing)) {

@@ -482,7 +482,7 @@ fn again_at<R: Host>(
     requires whole { journal.now.left ≡ Nothing }
 {
     let file = open_journal(rt, place.folder, bytes.len())?;
-    let mut reading = Reading::new(rt, bytes.len());
+    let mut reading = Reading::new(rt, place.setup, place.me, bytes.len());
     match again_of(rt.alloc(), place, journal, &mut reading) {
         Ok(again) => Ok(come_back(rt.alloc(), bytes, journal, again, FileLog::new(file))),
         Err(fault) => Err(fault),

@@ -17,6 +17,7 @@ use crate::host::{Host, Wires};
 use crate::inbox::Inbox;
 use crate::lanes::Lanes;
 use crate::listening::{Door, accept_all};
+use crate::looks::answer_looks;
 use crate::opening::{self, Place, Process, Room, SiteCell, open_other, open_site, settle};
 use crate::patience::Patience;
 use crate::serving::Serving;
@@ -27,12 +28,13 @@ use pvp_journal::bank_of;
 use pvp_links::Link;
 use pvp_places::{
     Address, Beginning, FolderWhy, Keys, Order, Paper, Peers, ServeFault, Who, actor_asked,
-    read_keys, read_peers,
+    read_address, read_keys, read_peers,
 };
 use pvp_tags::hmac;
 use pvp_text::read_setup;
 use pvp_types::Setup;
-use std::alloc::Global;
+use pvp_window::{Look, Shared, Window, show_all};
+use std::alloc::{AllocError, Global};
 use std::io::BufRead;
 use std::net::{IpAddr, Ipv4Addr, SocketAddr, TcpListener};
 use std::sync::Arc;
@@ -45,6 +47,9 @@ const MOST_ITEMS: usize = 1024;
 
 /// How many items go into one batch.
 const BATCH: u32 = 512;
+
+/// How many looks are answered behind a batch.
+const MOST_LOOKS: usize = 8;
 
 /// What a process knows of its bank.
 #[derive(Drop)]
@@ -209,7 +214,7 @@ fn host_site<R: Host, L: BufRead + Drop + Send + 'static, C: BootCell>(
     let patience = Patience::new(order.patience, order.beat);
     let desk = SiteDesk::new(bank.setup.copy()?, sites, patience, order.stays);
     let mut desk = Desk::Site(desk);
-    attend_site(rt, &inbox, &mut desk, serving)
+    attend_site(rt, bank, &inbox, &mut desk, serving)
 }
 
 /// A site, as its folder has it.
@@ -271,19 +276,21 @@ fn start_site<R: Host, L: BufRead + Drop + Send + 'static>(
     } = sources;
     dial_sites(rt, duty, &keys, site, inbox)?;
     listen(rt, duty, listener, keys, inbox)?;
+    start_window(rt, duty, inbox)?;
     start_ticking(rt, duty.order.beat, terminal, inbox)
 }
 
 /// Attends to a site until it is done.
 fn attend_site<R: Host, C: BootCell>(
     rt: R,
+    bank: &Bank,
     inbox: &Receiver<Inbox>,
     desk: &mut Desk,
     serving: &mut Process<C>,
 ) -> Result<(), ServeFault> {
     let _letters = serving.flush(&rt, rt.alloc(), false)?;
-    desk.tell(rt, serving.standing());
-    attend(rt, inbox, desk, serving)
+    desk.tell(rt, serving.me(), serving.standing());
+    attend(rt, bank, inbox, desk, serving)
 }
 
 /// Serves a node or a client.
@@ -324,7 +331,7 @@ fn host_other<R: Host, L: BufRead + Drop + Send + 'static, C: BootCell>(
     greet(rt, serving.request())?;
     let desk = TerminalDesk::new(rt.alloc(), setup, duty.order.stays, serving.request());
     let mut desk = Desk::Terminal(desk);
-    attend(rt, &inbox, &mut desk, serving)
+    attend(rt, duty.bank, &inbox, &mut desk, serving)
 }
 
 /// Has threads dial all sites, and bring ticks and lines. Answers what they bring.
@@ -336,13 +343,15 @@ fn dial_all<R: Host, L: BufRead + Drop + Send + 'static>(
 ) -> Result<Receiver<Inbox>, ServeFault> {
     let (sender, inbox) = bounded(rt.alloc(), MOST_ITEMS)?;
     dial_sites(rt, duty, keys, 2 * duty.bank.setup.faults() + 1, &sender)?;
+    start_window(rt, duty, &sender)?;
     start_ticking(rt, duty.order.beat, terminal, &sender)?;
     Ok(inbox)
 }
 
-/// Takes what comes, batch by batch, until the desk is done or a fault: each batch is written, and only then sent.
+/// Takes what comes, batch by batch, until the desk is done or a fault: each batch is written, and only then sent or shown.
 fn attend<R: Host, C: BootCell>(
     rt: R,
+    bank: &Bank,
     inbox: &Receiver<Inbox>,
     desk: &mut Desk,
     serving: &mut Process<C>,
@@ -351,11 +360,12 @@ fn attend<R: Host, C: BootCell>(
         let Ok(first) = inbox.recv(&rt) else {
             break;
         };
-        let batch = batch_behind(rt, inbox, first)?;
-        let batch = desk.sift(rt.alloc(), serving.nonce(), batch)?;
-        let goes_on = take_batch(rt, batch, desk, serving)?;
+        let Batch { items, looks, .. } = batch_behind(rt, inbox, first)?;
+        let items = desk.sift(rt.alloc(), serving.nonce(), items)?;
+        let goes_on = take_batch(rt, items, desk, serving)?;
         let _letters = serving.flush(&rt, rt.alloc(), false)?;
-        desk.tell(rt, serving.standing());
+        desk.tell(rt, serving.me(), serving.standing());
+        answer_looks(&rt, rt.alloc(), &bank.setup, serving, looks);
         if !goes_on {
             break;
         }
@@ -363,24 +373,53 @@ fn attend<R: Host, C: BootCell>(
     Ok(())
 }
 
-/// An item and what waits behind it, up to a batch. Ticks that waited behind other work count once.
+/// What the loop takes at once.
+#[derive(Drop)]
+struct Batch {
+    items: Vec<Inbox>,
+    looks: Vec<Look>,
+    has_tick: bool,
+}
+
+impl Batch {
+    /// Puts an item behind those that are there. Ticks that waited behind other work count once. Looks beyond the first are
+    /// dropped, and their windows say that the actor is busy.
+    fn put(&mut self, item: Inbox) -> Result<(), AllocError> {
+        match item {
+            Inbox::Look(look) => {
+                if self.looks.len() < MOST_LOOKS {
+                    self.looks.push(look)?;
+                }
+            }
+            Inbox::Tick => {
+                if !self.has_tick {
+                    self.has_tick = true;
+                    self.items.push(Inbox::Tick)?;
+                }
+            }
+            item => self.items.push(item)?,
+        }
+        Ok(())
+    }
+}
+
+/// An item and what waits behind it, up to a batch.
 fn batch_behind<R: Host>(
     rt: R,
     inbox: &Receiver<Inbox>,
     first: Inbox,
-) -> Result<Vec<Inbox>, ServeFault> {
-    let mut has_tick = matches!(first, Inbox::Tick);
-    let mut batch = Vec::new(rt.alloc());
-    batch.push(first)?;
+) -> Result<Batch, ServeFault> {
+    let mut batch = Batch {
+        items: Vec::new(rt.alloc()),
+        looks: Vec::new(rt.alloc()),
+        has_tick: false,
+    };
+    batch.put(first)?;
     for _ in 1..BATCH {
         let Ok(next) = inbox.try_recv(&rt) else {
             break;
         };
-        let is_tick = matches!(next, Inbox::Tick);
-        if !(is_tick && has_tick) {
-            batch.push(next)?;
-        }
-        has_tick |= is_tick;
+        batch.put(next)?;
     }
     Ok(batch)
 }
@@ -478,16 +517,50 @@ fn listener_of<R: Wires>(
     let Some(own) = peers.places.iter().find(|place| place.site == site) else {
         return Err(ServeFault::Folder(FolderWhy::Actor));
     };
+    let is_open = order.keys.is_some() || order.trusts_network;
+    bind(rt, &own.address, is_open, FolderWhy::Open)
+}
+
+/// A listener at an address, which has to be one of this machine where it may not be open to others.
+fn bind<R: Wires>(
+    rt: R,
+    address: &Address,
+    is_open: bool,
+    why: FolderWhy,
+) -> Result<TcpListener, ServeFault> {
     let mut found = [SocketAddr::new(IpAddr::V4(Ipv4Addr::LOCALHOST), 0); 1];
-    match addresses_of(rt, &own.address, &mut found) {
+    match addresses_of(rt, address, &mut found) {
         Ok(count) if count > 0 => {}
         _ => return Err(ServeFault::Net),
     }
-    if order.keys.is_none() && !order.trusts_network && !found[0].ip().is_loopback() {
-        return Err(ServeFault::Folder(FolderWhy::Open));
+    if !is_open && !found[0].ip().is_loopback() {
+        return Err(ServeFault::Folder(why));
     }
     match TcpListener::bind(&rt, found[0]) {
         Ok(listener) => Ok(listener),
+        Err(_) => Err(ServeFault::Net),
+    }
+}
+
+/// Has a thread show the actor over HTTP, where that is asked for, at an address of this machine.
+fn start_window<R: Host>(
+    rt: R,
+    duty: Duty<'_, '_>,
+    inbox: &Sender<Inbox>,
+) -> Result<(), ServeFault> {
+    let Some(word) = duty.order.http else {
+        return Ok(());
+    };
+    let Some(address) = read_address(rt.alloc(), word.as_bytes())? else {
+        return Err(ServeFault::Net);
+    };
+    let listener = bind(rt, &address, false, FolderWhy::Window)?;
+    let others = duty.order.http_peers.unwrap_or("");
+    let window = Window::new(rt.alloc(), duty.bank.setup.copy()?, word, others)?;
+    let shared: Arc<Shared, Global> = Arc::new(rt.alloc(), Shared::new(window))?;
+    let inbox = inbox.clone()?;
+    match thread::spawn(&rt, move || show_all(rt, listener, shared, inbox)) {
+        Ok(_thread) => Ok(()),
         Err(_) => Err(ServeFault::Net),
     }
 }

@@ -361,7 +361,7 @@ impl SiteDesk {
             Inbox::Frame(arrival, latest) => self.take_frame(rt, serving, arrival, latest),
             Inbox::Tick => {
                 self.teller
-                    .ticks(rt, serving.lost(), self.flood, self.passed);
+                    .ticks(rt, serving.me(), serving.lost(), self.flood, self.passed);
                 self.quota.tick();
                 self.tell_full(rt, serving);
                 self.tick(rt, serving)
@@ -372,7 +372,7 @@ impl SiteDesk {
                 Ok(())
             }
             Inbox::Gone { peer, stream, end } => {
-                self.teller.ends(rt, peer, end);
+                self.teller.ends(rt, serving.me(), peer, end);
                 self.loses(serving, peer, stream);
                 Ok(())
             }
@@ -384,7 +384,11 @@ impl SiteDesk {
                 self.answers(rt, serving, text.as_slice());
                 Ok(())
             }
-            Inbox::End => Ok(()),
+            Inbox::Unshown { peer, why } => {
+                self.teller.tells_unshown(rt, serving.me(), peer, why);
+                Ok(())
+            }
+            Inbox::Look(_) | Inbox::End => Ok(()),
         }
     }
 
@@ -440,14 +444,14 @@ impl SiteDesk {
     }
 
     /// Reports the site's status on standard error, where it has changed.
-    pub fn tell<R: Host>(&mut self, rt: R, standing: Option<Standing>)
+    pub fn tell<R: Host>(&mut self, rt: R, me: u16, standing: Option<Standing>)
         ensures { self.new ≡ record self.old {
           teller = record self.old.teller {
             stood = stood_after standing self.old.teller.stood;
           };
         } }
     {
-        self.teller.stands(rt, standing);
+        self.teller.stands(rt, me, standing);
     }
 }
 

@@ -31,19 +31,20 @@ pub fn settle(stream: &TcpStream) -> io::Result<()> {
     stream.set_write_timeout(Some(Duration::from_secs(WRITE_SECONDS)))
 }
 
-/// Tells the loop that a stream stands, and answers the frames that are to go over it; `None` where the process ends, or
-/// memory is refused.
+/// Tells the loop that a stream stands. Answers the frames that are to go over it, and where its reader sees that it was let go;
+/// `None` where the process ends, or memory is refused.
 pub fn announce<R: Wires>(
     rt: R,
     inbox: &Sender<Inbox>,
     peer: u16,
     stream: u64,
-) -> Option<Outgoing> {
+) -> Option<(Outgoing, Arc<AtomicBool, Global>)> {
     let (lane, outgoing) = lane_to(rt.alloc(), peer, stream).ok()?;
+    let ended = outgoing.ended().ok()?;
     if !tell(&rt, inbox, Inbox::Came(lane)) {
         return None;
     }
-    Some(outgoing)
+    Some((outgoing, ended))
 }
 
 /// Writes what comes until the lane is dropped or a write fails, and then closes the stream.

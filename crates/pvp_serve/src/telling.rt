@@ -13,6 +13,7 @@ ghost use Rattle.pvp_serve.specs.Telling.{
 };
 
 use crate::admission::is_full_at;
+use crate::heading::{Heading, Level};
 use crate::host::Host;
 use crate::lanes::Lane;
 use crate::serving::{Lost, Standing};
@@ -95,7 +96,7 @@ impl Teller {
     }
 
     /// A stream has ended: what was wrong with it is reported, but not the same twice in a row.
-    pub fn ends<R: Host>(&mut self, rt: R, peer: u16, end: LinkEnd)
+    pub fn ends<R: Host>(&mut self, rt: R, me: u16, peer: u16, end: LinkEnd)
         ensures { self.new ≡ record self.old { ended = ended_after peer end self.old.ended } }
     {
         let LinkEnd::Wrong(why) = end else {
@@ -106,13 +107,19 @@ impl Teller {
         }
         self.ended = Some((peer, why));
         let name = self.name_of(rt.alloc(), peer);
-        let _told = eprintln!(rt; "stream of {} ends: {why}", name.as_str());
+        let head = self.heading(rt, me, Level::Warn);
+        let _told = eprintln!(rt; "{head}stream of {} ends: {why}", name.as_str());
+    }
+
+    /// A site that was called time and again does not show itself: that is reported.
+    pub fn tells_unshown<R: Host>(&self, rt: R, me: u16, peer: u16, why: LinkFault) {
+        tell_unshown(rt, &self.setup, me, peer, why);
     }
 
     /// A tick: from time to time it reports how many streams were turned away, and how many frames
     /// were lost as their clocks were too far ahead or too many came from one, where that is more
     /// than was reported; and how many were skipped by then.
-    pub fn ticks<R: Host>(&mut self, rt: R, lost: Lost, flood: Lost, passed: u64)
+    pub fn ticks<R: Host>(&mut self, rt: R, me: u16, lost: Lost, flood: Lost, passed: u64)
         ensures { self.new ≡ told_after self.old lost.count flood.count }
     {
         let (away, far, many) = (self.away, lost.count, flood.count);
@@ -126,37 +133,45 @@ impl Teller {
             lost: far,
             flood: many,
         };
+        let head = self.heading(rt, me, Level::Warn);
         let _told = eprintln!(rt;
-            "turned away {away} streams, lost {far} frames of far clocks and {many} in floods, passed over {passed}"
+            "{head}turned away {away} streams, lost {far} frames of far clocks and {many} in floods, passed over {passed}"
         );
         if let Some(last) = self.last {
-            self.tells_last(rt, last);
+            self.tells_last(rt, me, last);
         }
         self.last = None;
-        self.names(rt, "far clock", lost.last);
-        self.names(rt, "flood", flood.last);
+        self.names(rt, me, "far clock", lost.last);
+        self.names(rt, me, "flood", flood.last);
     }
 
     /// Tells who was turned away last.
-    fn tells_last<R: Host>(&self, rt: R, last: TurnedAway) {
+    fn tells_last<R: Host>(&self, rt: R, me: u16, last: TurnedAway) {
+        let head = self.heading(rt, me, Level::Warn);
         let TurnedAway { why, from, said } = last;
         let Some(said) = said else {
-            let _told = eprintln!(rt; "turned away the last: {why}, from {from}");
+            let _told = eprintln!(rt; "{head}turned away the last: {why}, from {from}");
             return;
         };
         let name = self.name_of(rt.alloc(), said);
         let _told = eprintln!(rt;
-            "turned away the last: {why}, from {from} as {}",
+            "{head}turned away the last: {why}, from {from} as {}",
             name.as_str()
         );
     }
 
     /// Names whose the last frame was that was lost so.
-    fn names<R: Host>(&self, rt: R, what: &str, last: Option<u16>) {
+    fn names<R: Host>(&self, rt: R, me: u16, what: &str, last: Option<u16>) {
         if let Some(last) = last {
             let name = self.name_of(rt.alloc(), last);
-            let _told = eprintln!(rt; "the last {what} was of {}", name.as_str());
+            let head = self.heading(rt, me, Level::Warn);
+            let _told = eprintln!(rt; "{head}the last {what} was of {}", name.as_str());
         }
+    }
+
+    /// What a line of this site begins with now.
+    fn heading<R: Host>(&self, rt: R, me: u16, level: Level) -> Heading {
+        Heading::new(&rt, rt.alloc(), &self.setup, me, level)
     }
 
     /// The name of an actor, or as much of it as memory holds.
@@ -184,7 +199,7 @@ impl Teller {
     }
 
     /// Reports the site's status, where it has changed.
-    pub fn stands<R: Host>(&mut self, rt: R, standing: Option<Standing>)
+    pub fn stands<R: Host>(&mut self, rt: R, me: u16, standing: Option<Standing>)
         ensures { self.new ≡ record self.old { stood = stood_after standing self.old.stood } }
     {
         let Some(standing) = standing else {
@@ -198,7 +213,8 @@ impl Teller {
         let Standing { view, log, .. } = standing;
         let word = word_of(standing.status);
         let full = if now.is_full { " full" } else { "" };
-        let _told = eprintln!(rt; "{word} view {view} log {log}{full}");
+        let head = self.heading(rt, me, Level::Info);
+        let _told = eprintln!(rt; "{head}{word} view {view} log {log}{full}");
     }
 
     /// Prints the site's status, and who has a stream to it.
@@ -255,4 +271,12 @@ fn word_of(status: Status) -> &'static str
         Status::Recovering => "recovering",
         Status::Down => "down",
     }
+}
+
+/// Reports that a site that was called time and again does not show itself, the last time for this reason.
+pub fn tell_unshown<R: Host>(rt: R, setup: &Setup, me: u16, peer: u16, why: LinkFault) {
+    let mut name = String::new(rt.alloc());
+    let _named = push_actor(&mut name, setup, peer);
+    let head = Heading::new(&rt, rt.alloc(), setup, me, Level::Warn);
+    let _told = eprintln!(rt; "{head}no stream to {}: {why}", name.as_str());
 }

@@ -1,0 +1,7 @@
+pub mod Json
+pub mod Status
+pub mod Book
+pub mod Metrics
+pub mod Readings
+pub mod Paths
+pub mod Answers
