@@ -4,14 +4,14 @@ use crate::fault::Fault;
 use crate::files::{Files, Source, read_source};
 use pvp_audit::Shelf;
 use pvp_live::actors::numbers_of;
-use pvp_places::write_keys;
+use pvp_places::{write_keys, write_tokens};
 use pvp_text::read_setup;
 use pvp_trace::names::push_actor;
 use pvp_types::Setup;
 use std::alloc::Global;
 
 /// Puts a keys file for each actor of a bank into a folder, by the bank's secret: who has the file of one can speak for no
-/// other.
+/// other. Beside them it puts the tokens of those who read the bank's windows.
 pub fn put_keys<F: Files, K: Shelf>(
     alloc: Global,
     files: &F,
@@ -38,7 +38,26 @@ pub fn put_keys<F: Files, K: Shelf>(
             actors.as_slice(),
         )?;
     }
-    Ok(())
+    let mut tokens = String::new(alloc);
+    write_tokens(&setup, secret.as_slice(), actors.as_slice(), &mut tokens)?;
+    put_file(alloc, shelf, folder, "window.tokens", &tokens)
+}
+
+/// Puts a file there.
+fn put_file<K: Shelf>(
+    alloc: Global,
+    shelf: &mut K,
+    folder: &str,
+    file: &str,
+    text: &String,
+) -> Result<(), Fault> {
+    let mut name = String::from_str(alloc, folder)?;
+    name.push_str("/")?;
+    name.push_str(file)?;
+    match shelf.put(name.as_str(), text.as_str().as_bytes()) {
+        Ok(()) => Ok(()),
+        Err(fault) => Err(Fault::Shelf(fault)),
+    }
 }
 
 /// Puts the keys file of one of them there.
@@ -51,14 +70,10 @@ fn put_one<K: Shelf>(
     actor: u16,
     actors: &[u16],
 ) -> Result<(), Fault> {
-    let mut name = String::from_str(alloc, folder)?;
-    name.push_str("/")?;
-    push_actor(&mut name, setup, actor)?;
-    name.push_str(".keys")?;
+    let mut file = String::new(alloc);
+    push_actor(&mut file, setup, actor)?;
+    file.push_str(".keys")?;
     let mut text = String::new(alloc);
     write_keys(setup, secret, actor, actors, &mut text)?;
-    match shelf.put(name.as_str(), text.as_str().as_bytes()) {
-        Ok(()) => Ok(()),
-        Err(fault) => Err(Fault::Shelf(fault)),
-    }
+    put_file(alloc, shelf, folder, file.as_str(), &text)
 }

@@ -358,7 +358,7 @@ const AUDIT_ABOUT: &str =
     "Judges the journals of the actors of a bank: if together they are one legal run, prints the books and `audit yes`, else the first test that fails";
 
 const KEYS_ABOUT: &str =
-    "Makes a keys file for each actor of a bank, NAME.keys, from a secret of the bank";
+    "Makes a keys file for each actor of a bank, NAME.keys, from a secret of the bank, and window.tokens for those who read its windows";
 
 const SECRET_HELP: &str =
     "A file with the bank's secret: use at least 32 random bytes, and keep it apart from the bank, as who has it can speak for every actor";
@@ -404,10 +404,13 @@ const STAY_HELP: &str = "Keeps serving after standard input has ended, until it 
 const TRUST_HELP: &str = "Lets a site listen beyond this machine without keys";
 
 const HTTP_HELP: &str =
-    "Shows the actor over HTTP, at an address of this machine: where it stands, metrics, and at a site the book and a console";
+    "Shows the actor over HTTP, at an address of this machine alone or, with tokens, any: where it stands, metrics, and at a site the book and a console";
 
 const HTTP_PEERS_HELP: &str =
     "The windows of other actors, between commas, which the console reads, and whose pages may read this one";
+
+const HTTP_TOKEN_HELP: &str =
+    "The tokens of those who may read the window: a line `NAME HEX` for each, of whom OP reads all and a member its own part of the book";
 
 const LIVE_ABOUT: &str =
     "Runs a bank on threads while a script is played, with streams over this machine's loopback: if its run was legal, prints the books and `audit yes`, else the first test that fails";
@@ -520,7 +523,8 @@ fn with_order<'a>(alloc: Global) -> Result<Command<'a>, AllocError> {
         .arg(flag(alloc, "stay", STAY_HELP))?
         .arg(flag(alloc, "trust-network", TRUST_HELP))?
         .arg(value(alloc, "http", "HOST:PORT", HTTP_HELP))?
-        .arg(value(alloc, "http-peers", "HOST:PORT,..", HTTP_PEERS_HELP))
+        .arg(value(alloc, "http-peers", "HOST:PORT,..", HTTP_PEERS_HELP))?
+        .arg(value(alloc, "http-token", "FILE", HTTP_TOKEN_HELP))
 }
 
 /// A word of a command that stands behind a name.

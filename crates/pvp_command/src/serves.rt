@@ -69,7 +69,7 @@ pub fn tell_served<E: Write>(told: Result<(), ServeFault>, explains: bool, err: 
 /// The error for words that name no actor, or no number where one stands.
 pub const NO_TASK: &str =
     "`begin` and `serve` take one of `--site I`, `--node CCY` and `--client NAME`; `--beat` a number from 5 to 60000, and `--patience` one from 2 \
-to 1000, without a leading zero; `--http` HOST:PORT, and with it `--http-peers` such with commas between";
+to 1000, without a leading zero; `--http` HOST:PORT, and with it `--http-peers` such with commas between, and `--http-token`";
 
 /// The least and the most milliseconds from beat to beat, and those that are meant where none stand.
 const BEATS: (u32, u32, u32) = (5, 60_000, 50);
@@ -94,7 +94,8 @@ pub fn task_at<'a>(command: &str, words: &ArgMatches<'a>) -> Option<Task<'a>> {
 fn order_at<'a>(words: &ArgMatches<'a>) -> Option<Order<'a>> {
     let http = window_at(words.get_str("http"))?;
     let http_peers = window_at(words.get_str("http-peers"))?;
-    if http_peers.is_some() && http.is_none() {
+    let http_token = words.get_str("http-token");
+    if http.is_none() && (http_peers.is_some() || http_token.is_some()) {
         return None;
     }
     Some(Order {
@@ -110,6 +111,7 @@ fn order_at<'a>(words: &ArgMatches<'a>) -> Option<Order<'a>> {
         trusts_network: words.get_flag("trust-network"),
         http,
         http_peers,
+        http_token,
     })
 }
 

@@ -1,6 +1,6 @@
 //! The keys file of a process: the keys that it shares with others.
 ghost use Rattle.std.specs.Prelude.{◌≡◌, ◌==◌, ◌≤◌, [], ◌∷◌, ◌++◌, Ok, Err, OnOk, MatchResult, find, string_bytes};
-ghost use Rattle.pvp_places.specs.Keys.{byte_text, digit_at, hex_text, key_line, keys_text};
+ghost use Rattle.pvp_places.specs.Keys.{byte_text, digit_at, hex_text, key_line, keys_text, line_of, token_line, token_of, tokens_text};
 ghost use Rattle.pvp_places.specs.KeysFile.{is_shared, key_with, keys_in, shared_in, with_key};
 ghost use Rattle.pvp_places.specs.Reading.{AddsLine, Reads, of_two, with_line};
 ghost use Rattle.pvp_text.specs.ScriptWords.{words};
@@ -8,13 +8,15 @@ ghost use Rattle.pvp_text.specs.ScriptWords.{words};
 use crate::fault::{LineFault, PlaceFault, PlaceWhy};
 use crate::names::actor_named;
 use crate::words::{is_skipped, two_words};
+use byteorder::{BigEndian, ByteOrder};
 use hex::FromHex;
 use pvp_links::may_send;
-use pvp_tags::key_of;
+use pvp_tags::{hmac, key_of};
 use pvp_text::next_line;
 use pvp_trace::names::push_actor;
 use pvp_types::Setup;
 use std::alloc::{AllocError, Global};
+use vr_types::FIRST_NODE;
 
 /// The key that a process shares with another actor.
 #[derive(Clone, Copy)]
@@ -38,6 +40,13 @@ impl Keys {
             Some(shared) => Some(shared.key),
             None => None,
         }
+    }
+
+    /// All that is shared, as it stands in the file.
+    pub fn shared(&self) -> &[Shared]
+        ensures { result.now ≡ self.now.shared.items }
+    {
+        self.shared.as_slice()
     }
 }
 
@@ -139,14 +148,58 @@ fn push_line(
     if !may_send(me, actor) {
         return Ok(());
     }
+    push_named(setup, actor, &key_of(secret, me, actor), out)
+}
+
+/// Writes an actor and a key.
+fn push_named(setup: &Setup, actor: u16, key: &[u8; 32], out: &mut String) -> Result<(), AllocError>
+    ensures { OnOk result (string_bytes out.new ≡
+        string_bytes out.old ++ line_of setup.now actor key.now) }
+{
     push_actor(out, setup, actor)?;
     out.push_str(" ")?;
-    push_key(out, &key_of(secret, me, actor))?;
+    push_key(out, key)?;
     out.push_str("\n")
 }
 
+/// Writes the tokens of a bank's windows behind what is there, in the form of a keys file: a line for each client among these.
+pub fn write_tokens(
+    setup: &Setup,
+    secret: &[u8],
+    actors: &[u16],
+    out: &mut String,
+) -> Result<(), AllocError>
+    ensures { OnOk result (string_bytes out.new ≡
+        string_bytes out.old ++ tokens_text setup.now secret.now actors.now) }
+{
+    for actor in actors {
+        push_token(setup, secret, *actor, out)?;
+    }
+    Ok(())
+}
+
+/// Writes the line of an actor, where it is a client.
+fn push_token(setup: &Setup, secret: &[u8], actor: u16, out: &mut String) -> Result<(), AllocError>
+    ensures { OnOk result (string_bytes out.new ≡
+        string_bytes out.old ++ token_line setup.now secret.now actor) }
+{
+    if actor >= FIRST_NODE {
+        return Ok(());
+    }
+    push_named(setup, actor, &token_of(secret, actor), out)
+}
+
+/// The token by which a client reads windows.
+fn token_of(secret: &[u8], actor: u16) -> [u8; 32]
+    ensures { result ≡ token_of secret.now actor }
+{
+    let mut text = [0; 2];
+    BigEndian::write_u16(&mut text, actor);
+    hmac(secret, b"window", &text)
+}
+
 /// Writes a key in 64 digits.
-fn push_key(out: &mut String, key: &[u8; 32]) -> Result<(), AllocError>
+pub fn push_key(out: &mut String, key: &[u8; 32]) -> Result<(), AllocError>
     ensures { OnOk result (string_bytes out.new ≡ string_bytes out.old ++ hex_text key.now) }
 {
     for byte in key {

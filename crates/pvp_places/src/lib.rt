@@ -14,7 +14,7 @@ pub mod words;
 
 pub use address::{Address, read_address};
 pub use fault::{FolderWhy, LineFault, PlaceFault, PlaceWhy, TerminalWhy};
-pub use keys::{Keys, read_keys, write_keys};
+pub use keys::{Keys, push_key, read_keys, write_keys, write_tokens};
 pub use mark::{Mark, read_mark};
 pub use names::{actor_asked, actor_named};
 pub use order::{Beginning, Order, Task, Who};

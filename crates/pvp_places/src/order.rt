@@ -39,6 +39,8 @@ pub struct Order<'a> {
     pub http: Option<&'a str>,
     /// The windows of others, whose pages may read this one: HOST:PORT,HOST:PORT ..
     pub http_peers: Option<&'a str>,
+    /// The file of the tokens of those who may read the window; without one everybody may.
+    pub http_token: Option<&'a str>,
 }
 
 /// Which actor is begun, and where.

@@ -10,6 +10,10 @@ use Rattle.pvp_places.specs.declared.serving.ServeFault.{ServeFault}
 use Rattle.pvp_places.specs.declared.serving.ServeFault.TheVariants.{Missing}
 use Rattle.pvp_places.specs.KeysFile.{key_with}
 use Rattle.pvp_serve.specs.declared.listening.Door.{Door}
+use Rattle.pvp_places.specs.declared.keys.Shared.{Shared}
+use Rattle.pvp_places.specs.Keys.{hex_text}
+use Rattle.pvp_window.specs.declared.reader.Token.{Token}
+use Rattle.pvp_window.specs.Readers.{token}
 
 -- the key with a peer: none where frames are not tagged; and a peer without a key is reported (Q6)
 abbrev pub IsKeyWith : Option Keys → ℕ → Result (Option (List ℕ)) ServeFault → Type 0
@@ -46,3 +50,7 @@ pub record IsLetIn (door : Door) (own : List ℕ) (link : Link) (rest : List ℕ
 -- WHO ANSWERS A CALL: who shows itself by a tag that is over what this end drew for the stream and what it says it drew
 abbrev pub IsAnswered : Link → List ℕ → Link → List ℕ → Type 0
 IsAnswered pair own link rest = (theirs : List ℕ) × Shows (over (own ++ theirs) pair) link rest
+
+-- A TOKEN OF A WINDOW is a key in digits, of the actor for which it reads
+abbrev pub token_in : Shared → Token
+token_in key = token key.actor (hex_text key.key)

@@ -2,11 +2,11 @@
 //!
 //! Functions hand on what they own as their last step, and `match` where `?` would drop an owned
 //! value on a branch: that keeps their proofs cheap (docs/working.md, "How long things take").
-ghost use Rattle.std.specs.Prelude.{◌≡◌, codes, ok_or, take};
+ghost use Rattle.std.specs.Prelude.{◌≡◌, codes, map, ok_or, take, IfOk};
 ghost use Rattle.pvp_tags.specs.Hmac.{hmac};
 ghost use Rattle.pvp_types.specs.Setup.{IsValid};
 ghost use Rattle.pvp_places.specs.Names.{actor_asked};
-ghost use Rattle.pvp_serve.specs.Doors.{IsKeyWith};
+ghost use Rattle.pvp_serve.specs.Doors.{IsKeyWith, token_in};
 
 use crate::answers::greet;
 use crate::attending::Desk;
@@ -26,14 +26,15 @@ use crate::ticking::{read_lines, tick};
 use crossbeam_channel::{Receiver, Sender, bounded};
 use pvp_journal::bank_of;
 use pvp_links::Link;
+use pvp_places::keys::Shared;
 use pvp_places::{
     Address, Beginning, FolderWhy, Keys, Order, Paper, Peers, ServeFault, Who, actor_asked,
-    read_address, read_keys, read_peers,
+    push_key, read_address, read_keys, read_peers,
 };
 use pvp_tags::hmac;
 use pvp_text::read_setup;
 use pvp_types::Setup;
-use pvp_window::{Look, Shared, Window, show_all};
+use pvp_window::{Look, Token, Window, show_all};
 use std::alloc::{AllocError, Global};
 use std::io::BufRead;
 use std::net::{IpAddr, Ipv4Addr, SocketAddr, TcpListener};
@@ -166,6 +167,38 @@ fn keys_of<R: Host>(rt: R, setup: &Setup, name: Option<&str>) -> Result<Option<K
         Ok(keys) => Ok(Some(keys)),
         Err(fault) => Err(ServeFault::of_place(Paper::Keys, fault)),
     }
+}
+
+/// The tokens of those who may read a window, as their file has them.
+fn tokens_of<R: Host>(
+    rt: R,
+    setup: &Setup,
+    name: Option<&str>,
+) -> Result<Option<Vec<Token>>, ServeFault> {
+    match keys_of(rt, setup, name)? {
+        Some(keys) => Ok(Some(tokens_in(rt.alloc(), keys.shared())?)),
+        None => Ok(None),
+    }
+}
+
+/// The tokens that are such keys.
+fn tokens_in(alloc: Global, keys: &[Shared]) -> Result<Vec<Token>, AllocError>
+    ensures { IfOk result (λ tokens. tokens.items ≡ map token_in keys.now) }
+{
+    let mut tokens = Vec::new(alloc);
+    for key in keys {
+        tokens.push(token_in(alloc, key)?)?;
+    }
+    Ok(tokens)
+}
+
+/// The token that is such a key: its digits.
+fn token_in(alloc: Global, key: &Shared) -> Result<Token, AllocError>
+    ensures { IfOk result (λ it. it ≡ token_in key.now) }
+{
+    let mut digits = String::new(alloc);
+    push_key(&mut digits, &key.key)?;
+    Ok(Token::new(key.actor, digits.as_str().as_bytes()))
 }
 
 /// Serves a site.
@@ -542,7 +575,7 @@ fn bind<R: Wires>(
     }
 }
 
-/// Has a thread show the actor over HTTP, where that is asked for, at an address of this machine.
+/// Has a thread show the actor over HTTP, where that is asked for: at an address of this machine, or to those who have a token.
 fn start_window<R: Host>(
     rt: R,
     duty: Duty<'_, '_>,
@@ -554,10 +587,15 @@ fn start_window<R: Host>(
     let Some(address) = read_address(rt.alloc(), word.as_bytes())? else {
         return Err(ServeFault::Net);
     };
-    let listener = bind(rt, &address, false, FolderWhy::Window)?;
+    let setup = duty.bank.setup.copy()?;
+    let tokens = tokens_of(rt, &setup, duty.order.http_token)?;
+    let listener = bind(rt, &address, tokens.is_some(), FolderWhy::Window)?;
     let others = duty.order.http_peers.unwrap_or("");
-    let window = Window::new(rt.alloc(), duty.bank.setup.copy()?, word, others)?;
-    let shared: Arc<Shared, Global> = Arc::new(rt.alloc(), Shared::new(window))?;
+    let window = Window::new(rt.alloc(), setup, word, others, tokens)?;
+    let shared: Arc<pvp_window::Shared, Global> = Arc::new(
+        rt.alloc(),
+        pvp_window::Shared::new(window),
+    )?;
     let inbox = inbox.clone()?;
     match thread::spawn(&rt, move || show_all(rt, listener, shared, inbox)) {
         Ok(_thread) => Ok(()),

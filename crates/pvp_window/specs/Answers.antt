@@ -1,5 +1,6 @@
 -- WHAT IS ANSWERED TO A REQUEST: by status, fields and body.
 use Rattle.std.specs.Prelude.{◌≡◌, ◌⊎◌, ℕ, ◌++◌, ◌&&◌, Bool, false, not, bytes_eq, string_bytes, if◌then◌else◌, List, [], ◌∷◌, Option, Some, None, codes}
+use Rattle.std.specs.Global.{Vec}
 use Rattle.std.specs.List.{list_any}
 use Rattle.http.specs.declared.request.Parts.{Parts}
 use Rattle.http_header.specs.FieldValue.{FieldValue}
@@ -16,8 +17,10 @@ use Rattle.pvp_window.specs.declared.path.Asked.{Asked}
 use Rattle.pvp_window.specs.declared.path.Asked.TheVariants.{Console, Windows, Look, Missing, Wrong}
 use Rattle.pvp_window.specs.declared.window.Window.{Window}
 use Rattle.pvp_window.specs.declared.window.Decision.{Decision}
-use Rattle.pvp_window.specs.declared.window.Decision.TheVariants.{Elsewhere, NotRead, Of}
+use Rattle.pvp_window.specs.declared.window.Decision.TheVariants.{Elsewhere, NotRead, Preflight, Unknown, Barred, Of}
+use Rattle.pvp_window.specs.declared.reader.Token.{Token}
 use Rattle.pvp_window.specs.Paths.{asked_by, is_read}
+use Rattle.pvp_window.specs.Readers.{is_open, may_read, reader_of}
 use Rattle.pvp_window.specs.Readings.{IsReading}
 
 -- a request names this window
@@ -25,12 +28,36 @@ abbrev pub is_for : Window → Option FieldValue → Bool
 is_for window (Some host) = bytes_eq host.bytes (string_bytes window.host)
 is_for window None = false
 
+-- what does not only read is refused, but for a browser's question whether a page may send a token, where one is needed
+abbrev pub unread_of : Option (Vec Token) → List ℕ → Decision
+unread_of (Some tokens) method = if bytes_eq method (codes "OPTIONS") then Preflight else NotRead
+unread_of None method = NotRead
+
+abbrev pub unread : Window → List ℕ → Decision
+unread window method = unread_of window.tokens method
+
+-- what may be read by whom
+abbrev pub by_reader : Asked → Option ℕ → Decision
+by_reader asked (Some reader) = if may_read reader asked then Of asked else Barred
+by_reader asked None = Unknown
+
+-- without tokens everybody reads all
+abbrev pub permitted_by : Option (Vec Token) → Option FieldValue → Asked → Decision
+permitted_by (Some tokens) field asked =
+    if is_open asked then Of asked else by_reader asked (reader_of tokens.items field)
+permitted_by None field asked = Of asked
+
+abbrev pub permitted : Window → Option FieldValue → Asked → Decision
+permitted window field asked = permitted_by window.tokens field asked
+
 -- WHAT A REQUEST COMES TO: another host is refused before anything else, then what does not only read
 abbrev pub decided : Window → Parts → Decision
 decided window head =
     if not (is_for window (get head.headers (codes "host"))) then Elsewhere
-    else if not (is_read head.method) then NotRead
-    else Of (asked_by window.setup (uri_path head.uri) (uri_query head.uri))
+    else if is_read head.method
+    then permitted window (get head.headers (codes "authorization"))
+    (asked_by window.setup (uri_path head.uri) (uri_query head.uri))
+    else unread window head.method
 
 -- pages of these other windows may read what is answered
 abbrev pub is_neighbour : Window → List ℕ → Bool
@@ -90,6 +117,11 @@ abbrev pub IsDecided : Window → List Header → Decision → Response → Type
 IsDecided window fields Elsewhere = IsResponse 421 (fields ++ json ∷ []) (codes "{\"error\":\"another host\"}\n")
 IsDecided window fields NotRead =
     IsResponse 405 (fields ++ (codes "allow", codes "GET, HEAD") ∷ json ∷ []) (codes "{\"error\":\"only reads\"}\n")
+IsDecided window fields Preflight =
+    IsResponse 204 (fields ++ (codes "access-control-allow-headers", codes "authorization") ∷ []) []
+IsDecided window fields Unknown =
+    IsResponse 401 (fields ++ (codes "www-authenticate", codes "Bearer") ∷ json ∷ []) (codes "{\"error\":\"no token\"}\n")
+IsDecided window fields Barred = IsResponse 403 (fields ++ json ∷ []) (codes "{\"error\":\"not yours\"}\n")
 IsDecided window fields (Of asked) = IsSent window fields asked
 
 -- A REQUEST IS ANSWERED

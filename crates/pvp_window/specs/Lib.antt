@@ -5,3 +5,4 @@ pub mod Metrics
 pub mod Readings
 pub mod Paths
 pub mod Answers
+pub mod Readers

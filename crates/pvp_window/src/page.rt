@@ -125,8 +125,12 @@ function panel(column, id, title, words) {\n\
 \n\
 // --- Reading ---\n\
 \n\
+// a token stands behind the # of the page's address, which no browser sends\n\
+const token = () => location.hash.length > 1 ? { authorization: 'Bearer ' + location.hash.slice(1) } : {};\n\
+\n\
 async function read(base, path) {\n\
-\x20 const answer = await fetch(base + path, { cache: 'no-store', signal: AbortSignal.timeout(LATE - 100) });\n\
+\x20 const answer = await fetch(base + path, { cache: 'no-store', headers: token(), signal: AbortSignal.timeout(LATE - 100) });\n\
+\x20 raise('token', 'bad', (answer.status === 401 || answer.status === 403) && 'a token is needed: this address, # and the token of OP');\n\
 \x20 if (!answer.ok) throw answer;\n\
 \x20 return answer.text();\n\
 }\n\
@@ -384,4 +388,4 @@ setInterval(draw, OFTEN);\n\
 
 /// What the page may do: run its own script and have its own style, and nothing else.
 pub const SUMS: &str =
-    "default-src 'none'; script-src 'sha256-Pw7kJkmR7oEMvO6XbGbDaWYh5DHcpLyYFpQiWRmGEFs='; style-src 'sha256-BK/z5zjEvSi1ug/yZ33xfuWcM7MAu0CJDAcEluwHzic='; base-uri 'none'; form-action 'none'; frame-ancestors 'none'";
+    "default-src 'none'; script-src 'sha256-mYt7NkRfS2t2eWGCMx8tf0Jwc5evgj8w1xQpzh+RJIY='; style-src 'sha256-BK/z5zjEvSi1ug/yZ33xfuWcM7MAu0CJDAcEluwHzic='; base-uri 'none'; form-action 'none'; frame-ancestors 'none'";

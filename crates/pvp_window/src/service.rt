@@ -94,6 +94,24 @@ impl<'w, R: Waits, T: From<Look> + Drop> Looker<'w, R, T> {
                     b"{\"error\":\"only reads\"}\n",
                 )
             }
+            Decision::Preflight => send_preflight(response),
+            Decision::Unknown => {
+                let scheme = HeaderValue::from_static("Bearer");
+                refuse_with(
+                    response,
+                    header::WWW_AUTHENTICATE,
+                    scheme,
+                    StatusCode::UNAUTHORIZED,
+                    b"{\"error\":\"no token\"}\n",
+                )
+            }
+            Decision::Barred => {
+                refuse(
+                    response,
+                    StatusCode::FORBIDDEN,
+                    b"{\"error\":\"not yours\"}\n",
+                )
+            }
             Decision::Of(asked) => self.answer(asked, response),
         }
     }
@@ -259,6 +277,18 @@ fn send_reading(
     ensures { OnOk result (Shows (fields_of response.old) view response.new) }
 {
     fill(response, code_of(found), kind_of(view), text)
+}
+
+/// Answers that a page may send a token.
+fn send_preflight(response: &mut Response) -> Result<(), AllocError>
+    requires { response.old.body.items ≡ [] }
+    ensures { OnOk result (IsResponse 204 (fields_of response.old
+        ++ (codes "access-control-allow-headers", codes "authorization") ∷ []) [] response.new) }
+{
+    let token = HeaderValue::from_static("authorization");
+    response.add_header(header::ACCESS_CONTROL_ALLOW_HEADERS, token)?;
+    response.status = StatusCode::NO_CONTENT;
+    Ok(())
 }
 
 /// Answers that the loop is busy.

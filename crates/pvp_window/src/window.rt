@@ -2,11 +2,12 @@
 ghost use Rattle.std.specs.Prelude.{◌≡◌, ◌++◌, option_copied, string_bytes, IfOk, OnOk};
 ghost use Rattle.http.specs.Request.{head_of};
 ghost use Rattle.http_server.specs.Response.{fields_of};
-ghost use Rattle.pvp_window.specs.Answers.{allowed, common, decided, fixed, is_for, is_neighbour};
+ghost use Rattle.pvp_window.specs.Answers.{allowed, common, decided, fixed, is_for, is_neighbour, permitted, unread};
 
 use crate::json::{push_comma, push_quoted};
 use crate::page::{CONSOLE, SUMS};
 use crate::path::{Asked, asked_by, is_read};
+use crate::reader::{Token, is_open, may_read, reader_of};
 use bytes::Bytes;
 use http::header::HeaderValueError;
 use http::{HeaderValue, Request, header};
@@ -28,6 +29,8 @@ pub struct Window {
     pub listed: Bytes,
     /// The console's page.
     pub page: Bytes,
+    /// The tokens of those who may read it; without any list everybody may.
+    pub tokens: Option<Vec<Token>>,
 }
 
 /// What a request comes to.
@@ -37,14 +40,27 @@ pub enum Decision {
     Elsewhere,
     /// It does not only read.
     NotRead,
+    /// A browser asks whether a page may send a token.
+    Preflight,
+    /// It has no token, or an unknown one.
+    Unknown,
+    /// Its token is of one who may not read this.
+    Barred,
     Of(Asked),
 }
 
 impl Window {
     /// A window at this address, whose console reads the windows at these others. These stand between commas.
-    pub fn new(alloc: Global, setup: Setup, host: &str, others: &str) -> Result<Self, AllocError>
+    pub fn new(
+        alloc: Global,
+        setup: Setup,
+        host: &str,
+        others: &str,
+        tokens: Option<Vec<Token>>,
+    ) -> Result<Self, AllocError>
         ensures setup { IfOk result (λ window. window.setup ≡ setup) }
         ensures host { IfOk result (λ window. string_bytes window.host ≡ host.now) }
+        ensures tokens { IfOk result (λ window. window.tokens ≡ tokens) }
     {
         let mut origins = Vec::new(alloc);
         let mut listed = String::from_str(alloc, "{\"windows\":[")?;
@@ -61,6 +77,7 @@ impl Window {
             policy: policy_of(policy)?,
             listed: Bytes::from_string(listed)?,
             page: Bytes::from_static(CONSOLE),
+            tokens,
         })
     }
 
@@ -68,13 +85,41 @@ impl Window {
     pub fn decide(&self, request: &Request<Bytes>) -> Decision
         ensures { result ≡ decided self.now (head_of request.now) }
     {
-        if !self.is_for(request.headers().get(header::HOST)) {
+        let headers = request.headers();
+        let method = request.method().as_str();
+        if !self.is_for(headers.get(header::HOST)) {
             Decision::Elsewhere
-        } else if !is_read(request.method().as_str()) {
-            Decision::NotRead
-        } else {
+        } else if is_read(method) {
             let uri = request.uri();
-            Decision::Of(asked_by(&self.setup, uri.path(), uri.query()))
+            let asked = asked_by(&self.setup, uri.path(), uri.query());
+            self.permit(headers.get(header::AUTHORIZATION), asked)
+        } else {
+            self.unread(method)
+        }
+    }
+
+    /// What a request comes to that does not only read: where tokens are needed a browser asks first whether it may send one.
+    fn unread(&self, method: &str) -> Decision
+        ensures { result ≡ unread self.now method.now }
+    {
+        if self.tokens.is_some() && method == "OPTIONS" {
+            Decision::Preflight
+        } else {
+            Decision::NotRead
+        }
+    }
+
+    /// Whether this may be read by who shows this field.
+    fn permit(&self, field: Option<&HeaderValue>, asked: Asked) -> Decision
+        ensures { result ≡ permitted self.now (option_copied field.entry) asked }
+    {
+        match &self.tokens {
+            Some(tokens) if !is_open(asked) => match reader_of(tokens.as_slice(), field) {
+                Some(reader) if may_read(reader, asked) => Decision::Of(asked),
+                Some(_) => Decision::Barred,
+                None => Decision::Unknown,
+            },
+            _ => Decision::Of(asked),
         }
     }
 
