@@ -1,4 +1,5 @@
 pub mod Json
+pub mod Neighbours
 pub mod Status
 pub mod Book
 pub mod Metrics

@@ -11,7 +11,7 @@ use Rattle.pvp_window.specs.declared.reader.Token.{Token}
 
 -- the token of these digits
 abbrev pub token : ℕ → List ℕ → Token
-token reader digits = record { reader = reader; sum = sha256 digits; }
+token reader digits = record { reader = reader; sum = sha256 digits }
 
 -- for whom a token of this sum reads: the first that has it
 abbrev pub reader_by : List Token → List ℕ → Option ℕ

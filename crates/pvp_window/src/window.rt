@@ -1,8 +1,10 @@
 //! A window: where an actor is shown, and what a request comes to there before its loop is asked.
-ghost use Rattle.std.specs.Prelude.{◌≡◌, ◌++◌, option_copied, string_bytes, IfOk, OnOk};
+ghost use Rattle.std.specs.Prelude.{◌≡◌, ◌++◌, map, option_copied, string_bytes, IfOk, OnOk};
+ghost use Rattle.std.specs.List.{flat_map};
 ghost use Rattle.http.specs.Request.{head_of};
 ghost use Rattle.http_server.specs.Response.{fields_of};
 ghost use Rattle.pvp_window.specs.Answers.{allowed, common, decided, fixed, is_for, is_neighbour, permitted, unread};
+ghost use Rattle.pvp_window.specs.Neighbours.{asks, listed_json, name_item, names_in, names_json, origin_of, policy_of, policy_text};
 
 use crate::json::{push_comma, push_quoted};
 use crate::page::{CONSOLE, SUMS};
@@ -61,21 +63,21 @@ impl Window {
         ensures setup { IfOk result (λ window. window.setup ≡ setup) }
         ensures host { IfOk result (λ window. string_bytes window.host ≡ host.now) }
         ensures tokens { IfOk result (λ window. window.tokens ≡ tokens) }
+        ensures origins { IfOk result (λ window. map (λ it. string_bytes it) window.origins.items
+            ≡ map origin_of (names_in others.now)) }
+        ensures policy { IfOk result (λ window. window.policy.bytes
+            ≡ policy_of (names_in others.now)) }
+        ensures listed { IfOk result (λ window. window.listed ≡ listed_json (names_in others.now)) }
+        ensures page { IfOk result (λ window. window.page ≡ CONSOLE.now) }
     {
-        let mut origins = Vec::new(alloc);
-        let mut listed = String::from_str(alloc, "{\"windows\":[")?;
-        let mut policy = String::from_str(alloc, SUMS)?;
-        policy.push_str("; connect-src 'self'")?;
-        for other in others.split(',') {
-            add_other(alloc, other, &mut origins, &mut listed, &mut policy)?;
-        }
-        listed.push_str("]}\n")?;
+        let named = names_in(alloc, others)?;
+        let names = named.as_slice();
         Ok(Window {
             setup,
             host: String::from_str(alloc, host)?,
-            origins,
-            policy: policy_of(policy)?,
-            listed: Bytes::from_string(listed)?,
+            origins: origins_of(alloc, names)?,
+            policy: policy_of(alloc, names)?,
+            listed: listed_of(alloc, names)?,
             page: Bytes::from_static(CONSOLE),
             tokens,
         })
@@ -189,32 +191,92 @@ fn add_fixed(response: &mut Response) -> Result<(), AllocError>
     response.add_header(header::VARY, HeaderValue::from_static("origin"))
 }
 
-/// Adds another window: its page may read this one, and the console reads it.
-fn add_other(
-    alloc: Global,
-    other: &str,
-    origins: &mut Vec<String>,
-    listed: &mut String,
-    policy: &mut String,
-) -> Result<(), AllocError> {
-    if other.is_empty() {
-        return Ok(());
+/// The names of other windows: what stands between commas, where it is something.
+fn names_in<'a>(alloc: Global, others: &'a str) -> Result<Vec<&'a str>, AllocError>
+    ensures { IfOk result (λ names. map (λ name. name.now) names.items ≡ names_in others.now) }
+{
+    others
+        .split(',')
+        .filter(|name| !name.is_empty())
+        .collect(alloc)
+}
+
+/// The pages of these windows.
+fn origins_of(alloc: Global, names: &[&str]) -> Result<Vec<String>, AllocError>
+    ensures { IfOk result (λ origins. map (λ it. string_bytes it) origins.items
+        ≡ map origin_of (map (λ name. name.now) names.now)) }
+{
+    let mut origins = Vec::new(alloc);
+    for name in names {
+        let origin = format!(in alloc; "http://{name}")?;
+        origins.push(origin)?;
     }
-    let mut origin = String::from_str(alloc, "http://")?;
-    origin.push_str(other)?;
-    policy.push_str(" ")?;
-    policy.push_str(origin.as_str())?;
-    push_comma(listed, origins.len())?;
-    push_quoted(listed, other)?;
-    origins.push(origin)?;
+    Ok(origins)
+}
+
+/// The list of these windows, as JSON.
+#[tactic(auto, unfolding(crate::specs::Neighbours::listed_json))]
+fn listed_of(alloc: Global, names: &[&str]) -> Result<Bytes, AllocError>
+    ensures { IfOk result (λ listed. listed ≡ listed_json (map (λ name. name.now) names.now)) }
+{
+    let mut listed = String::from_str(alloc, "{\"windows\":[")?;
+    push_names(&mut listed, names)?;
+    listed.push_str("]}\n")?;
+    Bytes::from_string(listed)
+}
+
+/// Appends the names of these windows.
+fn push_names(text: &mut String, names: &[&str]) -> Result<(), AllocError>
+    ensures { OnOk result (string_bytes text.new
+        ≡ string_bytes text.old ++ names_json (map (λ name. name.now) names.now)) }
+{
+    for (at, name) in names.iter().enumerate() {
+        push_item(text, at, name)?;
+    }
     Ok(())
 }
 
-/// The field of a policy. One that no field can have lets a page do nothing.
-fn policy_of(policy: String) -> Result<HeaderValue, AllocError> {
-    match HeaderValue::from_string(policy) {
+/// Appends the name of the window at this place.
+#[tactic(auto, unfolding(crate::specs::Neighbours::name_item))]
+fn push_item(text: &mut String, at: usize, name: &str) -> Result<(), AllocError>
+    ensures { OnOk result (string_bytes text.new
+        ≡ string_bytes text.old ++ name_item (at, name.now)) }
+{
+    push_comma(text, at)?;
+    push_quoted(text, name)
+}
+
+/// The field of the policy. One that no field can have lets a page do nothing.
+fn policy_of(alloc: Global, names: &[&str]) -> Result<HeaderValue, AllocError>
+    ensures { IfOk result (λ policy. policy.bytes
+        ≡ policy_of (map (λ name. name.now) names.now)) }
+{
+    match HeaderValue::from_string(policy_text(alloc, names)?) {
         Ok(value) => Ok(value),
         Err(HeaderValueError::Invalid) => Ok(HeaderValue::from_static("default-src 'none'")),
         Err(HeaderValueError::OutOfMemory) => Err(AllocError),
     }
+}
+
+/// The policy: the page may ask its own window and these.
+#[tactic(auto, unfolding(crate::specs::Neighbours::policy_text))]
+fn policy_text(alloc: Global, names: &[&str]) -> Result<String, AllocError>
+    ensures { IfOk result (λ text. string_bytes text
+        ≡ policy_text (map (λ name. name.now) names.now)) }
+{
+    let mut text = String::from_str(alloc, SUMS)?;
+    text.push_str("; connect-src 'self'")?;
+    push_asks(&mut text, names)?;
+    Ok(text)
+}
+
+/// Appends that the page may ask these windows.
+fn push_asks(text: &mut String, names: &[&str]) -> Result<(), AllocError>
+    ensures { OnOk result (string_bytes text.new
+        ≡ string_bytes text.old ++ flat_map asks (map (λ name. name.now) names.now)) }
+{
+    for name in names {
+        write!(text, " http://{name}")?;
+    }
+    Ok(())
 }
